@@ -1,0 +1,315 @@
+"""Proves the crates of the program side by side, and builds the program.
+
+    tools/build [LANES]
+
+`rt all` proves each crate as soon as the crates that it uses are proved, so many at a time. (Several calls of `rt`
+would not run side by side: each keeps others away from all crates below its own.) There are as many lanes as
+processors, and fewer where memory is short; LANES is a number from 1 to 999. What was proved before, and has not
+changed since, takes seconds. It says at the start how long it will take about, and on the way how much of that is done,
+by the lines of the crates that are new or have changed. It ends with 0 where the program stands, and else with 1, with
+2 where it is called otherwise, or with 130 where it was interrupted.
+"""
+import hashlib
+import heapq
+import json
+import os
+import pathlib
+import re
+import signal
+import subprocess
+import sys
+import tempfile
+import time
+from typing import IO, Dict, Iterable, Iterator, List, Optional, Set
+
+from labtools.common.program import TOP, answer_help, end_unless, number_of
+
+
+FOLDER = f"{TOP}/crates/lab_cli"
+PROGRAM = f"{FOLDER}/out/lab_cli"
+PARTS = "src", "specs", "proofs"
+# The sums of the crates as they were proved last.
+PROVED = pathlib.Path(f"{TOP}/out/build.proved")
+# What the proof of a crate takes, about, on a processor of 2.5 GHz: so many seconds, for each line, and at least. A
+# crate that was proved takes the least.
+SECONDS_OF_A_LINE = 0.055
+SECONDS_OF_A_CRATE = 10
+MOST_LANES = 999
+# What a check needs at most, mostly, and how many lines of a failed one are shown.
+MEMORY_OF_A_CHECK = 3 * 2**30
+LINES_SHOWN = 20
+
+
+class Failed(Exception):
+    """Crates that are not proved, or a program that is not built: what is to be told of it."""
+
+
+def tell(text: object) -> None:
+    print(f"lab: {text}", file=sys.stderr, flush=True)
+
+
+def time_since(start: float) -> str:
+    minutes, seconds = divmod(int(time.monotonic() - start), 60)
+    return f"{minutes} min {seconds:02} s"
+
+
+def free_memory() -> Optional[int]:
+    """Returns how many bytes of memory are free, or None where the system does not say."""
+    try:
+        with open("/proc/meminfo", encoding="ascii") as file:
+            for line in file:
+                if line.startswith("MemAvailable:"):
+                    return int(line.split()[1]) * 1024
+    except (OSError, ValueError):
+        pass
+    return None
+
+
+def lanes_for_this_machine() -> int:
+    """Returns how many crates are proved at a time."""
+    processors = len(os.sched_getaffinity(0))
+    free = free_memory()
+    return processors if free is None else max(1, min(processors, free // MEMORY_OF_A_CHECK))
+
+
+def sum_of_sources() -> str:
+    return subprocess.run([f"{TOP}/tools/sources"], check=True, stdout=subprocess.PIPE, text=True).stdout
+
+
+def crates_of_program() -> Set[str]:
+    """Returns the names of the program's crate and of all crates below it."""
+    said = subprocess.run([f"{TOP}/tools/sources", "--crates"], check=True, stdout=subprocess.PIPE, text=True)
+    return set(said.stdout.split())
+
+
+class Plan:
+    """What each crate of the program is likely to take, and when it will be done."""
+
+    def __init__(self, lanes: int) -> None:
+        self.uses = uses_of_crates(crates_of_program())
+        self.sums: Dict[str, str] = {}
+        proved = proved_before()
+        self.seconds = {it: self.seconds_of(it, proved) for it in self.in_order()}
+        self.ends = self.schedule(lanes)
+
+    def below(self, name: str) -> Set[str]:
+        """Returns a crate and those below it."""
+        return {name}.union(*(self.below(it) for it in self.uses[name]))
+
+    def in_order(self) -> List[str]:
+        """Returns the crates as `rt all` takes them: those with the fewest below them first."""
+        return sorted(self.uses, key=lambda it: (len(self.below(it)), it))
+
+    def seconds_of(self, name: str, proved: Dict[str, str]) -> float:
+        """Returns what a crate takes. Its sum has those of the crates that it uses, which come before it."""
+        own = sources_of(name)
+        said = [*own, *(self.sums[it].encode() for it in sorted(self.uses[name]))]
+        self.sums[name] = hashlib.sha256(b"\0".join(said)).hexdigest()
+        lines = 0 if proved.get(name) == self.sums[name] else sum(it.count(b"\n") for it in own)
+        return SECONDS_OF_A_CRATE + lines * SECONDS_OF_A_LINE
+
+    def schedule(self, lanes: int) -> Dict[str, float]:
+        """Returns when each crate is done: the lane that is free first takes it, and waits there for those below it."""
+        ends: Dict[str, float] = {}
+        free = [0.0] * lanes
+        for name in self.seconds:
+            start = max([heapq.heappop(free), *(ends[it] for it in self.uses[name])])
+            ends[name] = start + self.seconds[name]
+            heapq.heappush(free, ends[name])
+        return ends
+
+    def whole(self) -> float:
+        """Returns how many seconds all takes."""
+        return max(self.ends.values())
+
+    def part_of(self, done: Iterable[str]) -> int:
+        """Returns how much of the work these crates are, in a hundred."""
+        return round(100 * sum(self.seconds[it] for it in done) / sum(self.seconds.values()))
+
+    def keep(self) -> None:
+        """Keeps what is proved now, where a file can be made for it."""
+        try:
+            PROVED.parent.mkdir(exist_ok=True)
+            PROVED.write_text(json.dumps(self.sums, indent=1))
+        except OSError:
+            pass
+
+
+def sources_of(name: str) -> List[bytes]:
+    """Returns what each source of a crate holds."""
+    folders = [pathlib.Path(f"{TOP}/crates/{name}/{part}") for part in PARTS]
+    return [path.read_bytes() for folder in folders for path in sorted(folder.rglob("*")) if path.is_file()]
+
+
+def proved_before() -> Dict[str, str]:
+    """Returns the sums of the crates as they were proved last, by their names."""
+    try:
+        return dict(json.loads(PROVED.read_text()))
+    except (OSError, ValueError, TypeError):
+        return {}
+
+
+def uses_of_crates(names: Set[str]) -> Dict[str, Set[str]]:
+    """Returns for each of these crates those of them that it uses, by crates.txt."""
+    uses: Dict[str, Set[str]] = {}
+    with open(f"{TOP}/crates.txt", encoding="utf-8") as file:
+        for line in file:
+            head, is_crate, used = line.partition("#")[0].partition(":")
+            if is_crate and head.split()[0] in names:
+                uses[head.split()[0]] = names.intersection(used.split())
+    return uses
+
+
+class Run:
+    """A run of `rt` in the program's crate, whose text is kept in a file too. It is ended with this program."""
+
+    def __init__(self, words: List[str], log: IO[str]) -> None:
+        self.log = log
+        self.process = subprocess.Popen(
+            ["rt", *words],
+            cwd=FOLDER,
+            stdin=subprocess.DEVNULL,
+            stdout=subprocess.PIPE,
+            stderr=subprocess.STDOUT,
+            text=True,
+            errors="replace",
+            start_new_session=True,
+        )
+
+    def __enter__(self) -> "Run":
+        return self
+
+    def __exit__(self, *_: object) -> None:
+        try:
+            os.killpg(self.process.pid, signal.SIGTERM)
+            self.process.wait(timeout=10)
+        except ProcessLookupError:
+            pass
+        except subprocess.TimeoutExpired:
+            os.killpg(self.process.pid, signal.SIGKILL)
+
+    def lines(self) -> Iterator[str]:
+        """Yields the lines that the run prints, as it prints them."""
+        assert self.process.stdout
+        for line in self.process.stdout:
+            self.log.write(line)
+            yield line.rstrip()
+        self.process.wait()
+
+
+def last_of(lines: List[str]) -> str:
+    """Returns the last lines of a text, without those that only count what was read of the kit."""
+    telling = [line for line in lines if not line.startswith("statements ")]
+    return "\n".join(f"    {line}" for line in telling[-LINES_SHOWN:])
+
+
+def cause_of(status: int) -> str:
+    """Returns what is to be said of a check that was killed."""
+    is_killed = status in (-signal.SIGKILL, 128 + signal.SIGKILL)
+    return " (it was killed, most likely for memory: `tools/build 1` proves one crate at a time)" if is_killed else ""
+
+
+class Progress:
+    """What `rt all` has said so far: by the name of each crate that is done its text, and at the end the status of each
+    that failed.
+    """
+
+    def __init__(self, plan: Plan, start: float) -> None:
+        self.plan = plan
+        self.start = start
+        self.texts: Dict[str, List[str]] = {}
+        self.current: List[str] = []
+        self.failed: Dict[str, int] = {}
+
+    def take(self, line: str) -> None:
+        """Takes the next line. A crate's text stands after `== NAME`, and a summary after `== summary`."""
+        if line.startswith("== "):
+            self.begin(line[3:])
+            return
+        self.current.append(line)
+        fault = re.fullmatch(r"(\w+): failed \((.*)\)", line)
+        if fault and self.current is self.texts.get("summary"):
+            self.failed[fault[1]] = int(fault[2])
+
+    def begin(self, name: str) -> None:
+        self.current = self.texts[name] = []
+        done = self.plan.seconds.keys() & self.texts.keys()
+        if name in done:
+            part = f"{len(done)} of {len(self.plan.seconds)} crates, {self.plan.part_of(done)} % of the work"
+            tell(f"{part}, {time_since(self.start)}: {name}")
+
+    def fault(self) -> str:
+        """Returns what is to be told where not all is proved."""
+        if not self.failed:
+            return f"the crates are not proved:\n{last_of(self.current)}"
+        return "\n".join(
+            f"{name} is not proved{cause_of(status)}:\n{last_of(self.texts[name])}"
+            for name, status in self.failed.items()
+        )
+
+
+def prove(lanes: int, plan: Plan, log: IO[str], start: float) -> None:
+    """Proves the crates of the program, so many at a time."""
+    progress = Progress(plan, start)
+    with Run(["all", "check", "--jobs", str(lanes)], log) as run:
+        for line in run.lines():
+            progress.take(line)
+        if run.process.returncode != 0:
+            raise Failed(progress.fault())
+    plan.keep()
+
+
+def build_program(log: IO[str]) -> None:
+    """Builds the program, and runs it without words, so that it says how it is called."""
+    if os.path.exists(PROGRAM):
+        os.remove(PROGRAM)
+    with Run(["run"], log) as run:
+        said = list(run.lines())
+    if not os.path.exists(PROGRAM):
+        raise Failed(f"the program is not built:\n{last_of(said)}")
+
+
+def keep_sum(before: str) -> None:
+    """Keeps beside the program from which sources it was built, unless they have changed meanwhile."""
+    if sum_of_sources() != before:
+        raise Failed("the sources have changed during the build; start it again")
+    with open(f"{PROGRAM}.sources", "w", encoding="ascii") as file:
+        file.write(before)
+
+
+def build(lanes: int, log: IO[str]) -> None:
+    start = time.monotonic()
+    before = sum_of_sources()
+    plan = Plan(lanes)
+    minutes = f"{plan.whole() / 60:.0f} minutes" if plan.whole() >= 90 else "a minute"
+    tell(f"proves and builds the program, {lanes} crates at a time, in about {minutes}; later runs start at once")
+    prove(lanes, plan, log, start)
+    build_program(log)
+    keep_sum(before)
+    tell(f"the program is built, after {time_since(start)}")
+
+
+def main(words: List[str]) -> int:
+    answer_help(__doc__)
+    end_unless(len(words) < 2, "[LANES]")
+    lanes = number_of(words[0], "[LANES]", MOST_LANES) if words else lanes_for_this_machine()
+    # So that what runs is ended when this run is told to end.
+    for number in (signal.SIGTERM, signal.SIGHUP):
+        signal.signal(number, lambda told, _: sys.exit(128 + told))
+    status = 0
+    with tempfile.NamedTemporaryFile("w", prefix="lab-build-", suffix=".log", delete=False) as log:
+        try:
+            build(lanes, log)
+        except (Failed, OSError, subprocess.CalledProcessError) as fault:
+            tell(fault)
+            tell(f"all that was printed is in {log.name}")
+            return 1
+        except KeyboardInterrupt:
+            tell("the build was interrupted; what is proved is kept")
+            status = 130
+    os.remove(log.name)
+    return status
+
+
+if __name__ == "__main__":
+    sys.exit(main(sys.argv[1:]))

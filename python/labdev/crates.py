@@ -1,0 +1,64 @@
+"""Prints the crates by layer, as crates.txt has them: a crate stands one layer above the highest that it uses.
+
+    tools/crates            the crates of the program, the highest layer first
+    tools/crates --chain    one longest way down from lab_cli, which no build can do side by side
+
+Crates of tests and programs beside `lab` are left out, and so are libraries of the kit. It ends with 0, with 1 where
+that cannot be printed, and with 2 where its words are wrong.
+"""
+import functools
+import sys
+import textwrap
+from typing import Dict, List
+
+from labtools.common.program import TOP, answer_help, end_unless, end_with
+
+
+PROGRAM = "lab_cli"
+COLUMNS = 110
+
+
+def uses_of(text: str) -> Dict[str, List[str]]:
+    """Returns the crates of crates.txt, each with those of the same file that it uses."""
+    lines = [line.split("#")[0] for line in text.split("\n")]
+    rows = [line.partition(":") for line in lines if ":" in line]
+    names = {row[0].split()[0] for row in rows}
+    return {row[0].split()[0]: [it for it in row[2].split() if it in names] for row in rows}
+
+
+def below(uses: Dict[str, List[str]], crate: str) -> "set[str]":
+    """Returns a crate and all that it stands on."""
+    return {crate}.union(*(below(uses, it) for it in uses[crate]))
+
+
+def chains_of(uses: Dict[str, List[str]]) -> Dict[str, List[str]]:
+    """Returns of each crate a longest way down from it; its length is the crate's layer."""
+
+    @functools.lru_cache(maxsize=None)
+    def chain(crate: str) -> List[str]:
+        longest = max((chain(it) for it in sorted(uses[crate])), key=len, default=[])
+        return [crate, *longest]
+
+    return {crate: chain(crate) for crate in uses}
+
+
+def layers(uses: Dict[str, List[str]]) -> List[str]:
+    """Returns a line a layer, and more where it is long."""
+    chains = {crate: chain for crate, chain in chains_of(uses).items() if crate in below(uses, PROGRAM)}
+    lines = []
+    for height in range(len(chains[PROGRAM]), 0, -1):
+        crates = " ".join(sorted(crate for crate, chain in chains.items() if len(chain) == height))
+        head = f"{height:2}  "
+        lines += textwrap.wrap(crates, COLUMNS, initial_indent=head, subsequent_indent=" " * len(head))
+    return lines
+
+
+def main() -> None:
+    answer_help(__doc__)
+    end_unless(sys.argv[1:] in ([], ["--chain"]), "[--chain]")
+    uses = uses_of((TOP / "crates.txt").read_text(encoding="utf-8"))
+    print("\n".join(layers(uses) if not sys.argv[1:] else [" > ".join(chains_of(uses)[PROGRAM])]))
+
+
+if __name__ == "__main__":
+    end_with(main)

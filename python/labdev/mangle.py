@@ -1,0 +1,321 @@
+"""Runs the program that stands built on damaged files: the scripts, platform files, images and snapshots of each case
+and demo, with one byte changed, dropped or doubled. A snapshot that a case makes itself, by an earlier run, is one too.
+
+    tools/mangle              at every place of every file
+    tools/mangle COUNT        so many such files, drawn from a fixed seed
+    tools/mangle COUNT SEED   and from another one
+
+Each damaged laboratory is checked by `lab check`, and run. Told is an end by a signal or with another status than 0, 3
+or 4, or 6 where a file has the word `Save` or `Load`, a text on the standard error, a refusal whose last line has
+another form than docs/SCRIPTS.md says, a line of another form than those of the log, a check that takes more than a
+second, and a check and a run that disagree. These agree where they end alike with one refusal, but for what a run alone
+sees or does: that lab time ends (S14), that it has passed before a `Load` (S21), that a file cannot be kept by `Save`
+(6), and that one is, which a later `Load` of a check does not find (6). A run that goes on for more than a second is
+ended, and what it has printed is looked at: a changed time may have made it longer.
+
+Each trial begins with the files of its laboratory and no others: what a run has kept is removed. Laboratories of more
+than 100,000 bytes are passed over. With COUNT nothing is printed but what is wrong, and a folder in which it can be
+tried; without it also how much was tried. As many are tried at a time as there are processors for it: `taskset` gives
+it fewer. It ends with 0 where nothing was wrong, with 1 where something was, and with 2 where its words are wrong:
+COUNT is a number from 1 to as many as there are.
+"""
+import concurrent.futures
+import glob
+import os
+import random
+import re
+import shutil
+import subprocess
+import sys
+import tempfile
+import threading
+from typing import Any, Dict, Iterator, List, Optional, Tuple, Union
+
+from labdev import cases
+from labdev.cases import Files
+from labtools.common.program import TOP, answer_help, end_unless, end_wrong, number_of, path_of_program
+
+
+answer_help(__doc__)
+COUNT: Optional[int] = None
+if __name__ == "__main__":
+    USAGE = "[COUNT [SEED]]"
+    end_unless(len(sys.argv) < 4, USAGE)
+    COUNT = number_of(sys.argv[1], USAGE) if sys.argv[1:] else None
+PROGRAM = path_of_program()
+SECONDS = 1
+LARGEST = 100_000
+# So many trials are handed to the workers at a time.
+BATCH = 10_000
+WAYS = ("changed", "dropped", "doubled")
+# Bytes that mean something in scripts, platform files or images; a change mostly puts in one of them.
+SIGNS = b" \t\r\n$@#:;=?\"'{}[]<>(),.-+*/\\|_09afAFxX\x00\x01\x7f\x80\xc3\xff"
+CAUSES = {
+    "S": "unknown command,arguments,variable,no board,board,taken,name,kind,connected,time,depth,commands,boards,"
+    "lab time,platform,address,unclosed,not utf-8,size,snapshot,occupied",
+    "P": "form,feature,type,attribute,value,missing,twice,reference,overlap,line,count,core",
+    "E": "short,not elf,class,order,machine,type,headers,segment",
+    "H": "form,sum,no end,kind,length",
+}
+REFUSALS = {f"{code}{n} {it}" for code, causes in CAUSES.items() for n, it in enumerate(causes.split(","), 1)}
+REFUSAL = re.compile(rb"error: (.*):(\d+): ([A-Z]\d+ [a-z0-9 -]+)", re.DOTALL)
+LOG = re.compile(
+    rb"\[\d+\.\d{6}\] (?:[\w-]+/\w+: .*|pause [\w-]+/\w+: (?:pass|fail \d+))|0x[0-9a-f]{8}|\d+|true|false", re.DOTALL
+)
+
+
+class Laboratory:
+    """Files by name, and the words of a run over them."""
+
+    def __init__(self, name: str, files: Files, words: List[str]) -> None:
+        self.name = name
+        self.words = words
+        self.files = reached(files, words)
+
+    def made(self) -> Files:
+        """Returns the files that a run of it makes."""
+        if not has(b"Save", self.files):
+            return {}
+        with tempfile.TemporaryDirectory(prefix="lab-mangle-") as room:
+            furnish_room(room, self.files)
+            Answer(room, self.words)
+            return {name: held for name, held in files_in(room).items() if name not in self.files}
+
+    def key(self) -> Tuple[Any, ...]:
+        return tuple(self.words), tuple(sorted(self.files.items()))
+
+    def places(self) -> Iterator[Tuple[str, int, str]]:
+        """Yields each damage: a file, a place in it, and what happens to the byte there."""
+        for file, held in self.files.items():
+            for place in range(len(held)):
+                for way in WAYS:
+                    yield file, place, way
+
+
+def reached(files: Files, words: List[str]) -> Files:
+    """Returns the files that the words name, and those whose names stand in these."""
+    found = {name: files[name] for name in words if name in files}
+    fresh = list(found.values())
+    while fresh:
+        held = fresh.pop()
+        for name in files:
+            if name not in found and os.fsencode(name) in held:
+                found[name] = files[name]
+                fresh.append(files[name])
+    return found
+
+
+def has(word: bytes, files: Files) -> bool:
+    """Whether a file has this word, which is then no part of a longer one."""
+    return any(re.search(rb"\b%s\b" % word, held) for held in files.values())
+
+
+def of_case(path: str) -> Iterator[Laboratory]:
+    """Yields the laboratories of a case, each with the files that the runs before it have made."""
+    for run in cases.runs_of(path):
+        if not run.is_again:
+            laboratory = Laboratory(os.path.basename(path), dict(run.files), run.words)
+            yield laboratory
+            run.files.update(laboratory.made())
+
+
+def of_demos() -> Iterator[Laboratory]:
+    """Yields the laboratories of the demos, which are all in one folder: one for each script that no other names."""
+    files: Files = {}
+    for path in glob.glob(f"{TOP}/demo/*/*"):
+        with open(path, "rb") as file:
+            files[os.path.relpath(path, TOP)] = file.read()
+    scripts = {name: held for name, held in files.items() if name.endswith(".resc")}
+    for script in sorted(scripts):
+        if not any(os.fsencode(script) in held for held in scripts.values()):
+            yield Laboratory(os.path.dirname(script), files, ["run", script])
+
+
+def laboratories() -> List[Laboratory]:
+    """Returns the laboratories of all cases and demos that run a script, each once, and no large ones."""
+    found: Dict[Tuple[Any, ...], Laboratory] = {}
+    every = [it for path in sorted(glob.glob(f"{TOP}/cases/*.case")) for it in of_case(path)]
+    for laboratory in [*every, *of_demos()]:
+        is_large = sum(map(len, laboratory.files.values())) > LARGEST
+        if laboratory.words[:1] in (["run"], ["check"]) and laboratory.files and not is_large:
+            found.setdefault(laboratory.key(), laboratory)
+    return list(found.values())
+
+
+def damaged(held: bytes, place: int, way: str, chance: random.Random) -> bytes:
+    before, byte, after = held[:place], held[place : place + 1], held[place + 1 :]
+    if way == "dropped":
+        return before + after
+    if way == "doubled":
+        return before + byte + byte + after
+    others = [it for it in SIGNS if it != byte[0]] if chance.random() < 0.7 else [byte[0] ^ 1 << chance.randrange(8)]
+    return before + bytes([chance.choice(others)]) + after
+
+
+def put(room: str, name: str, held: bytes) -> None:
+    os.makedirs(os.path.dirname(f"{room}/{name}") or room, exist_ok=True)
+    with open(f"{room}/{name}", "wb") as file:
+        file.write(held)
+
+
+def furnish_room(room: str, files: Files) -> None:
+    """Makes a folder that has these files and no others."""
+    shutil.rmtree(room, ignore_errors=True)
+    os.mkdir(room)
+    for name, held in files.items():
+        put(room, name, held)
+
+
+def files_in(room: str) -> Files:
+    """Returns the files of a folder."""
+    found: Files = {}
+    for folder, _, names in os.walk(room):
+        for name in names:
+            with open(f"{folder}/{name}", "rb") as file:
+                found[os.path.relpath(f"{folder}/{name}", room)] = file.read()
+    return found
+
+
+class Answer:
+    """How a run has ended, by its status or by None where it went on, and what it has printed."""
+
+    status: Optional[int]
+    printed: bytes
+
+    def __init__(self, room: str, words: List[str]) -> None:
+        self.told = b""
+        try:
+            how: Dict[str, Any] = {"cwd": room, "stdin": subprocess.DEVNULL, "capture_output": True}
+            ran = subprocess.run([PROGRAM, *words], timeout=SECONDS, **how)
+            self.status, self.printed, self.told = ran.returncode, ran.stdout, ran.stderr
+        except subprocess.TimeoutExpired as late:
+            self.status, self.printed = None, late.stdout or b""
+        *lines, self.rest = self.printed.split(b"\n")
+        # A run that is ended may have printed its refusal already.
+        last = REFUSAL.fullmatch(lines[-1]) if lines and self.status in (3, None) else None
+        self.refusal = last if self.status == 3 else None
+        self.log = lines[:-1] if last or self.status == 3 else lines
+
+    def wrong(self, files: Files) -> Iterator[str]:
+        """Yields what is wrong with this answer alone, over these files."""
+        is_unkept = self.status == 6 and (has(b"Save", files) or has(b"Load", files))
+        if self.status not in (None, 0, 3, 4) and not is_unkept:
+            yield f"ended with {self.status}"
+        if self.told:
+            yield f"wrote on the standard error: {self.told!r}"
+        if self.status == 3 and not (self.refusal and self.refusal[3].decode() in REFUSALS):
+            yield "ended with 3 and no line of a refusal"
+        if self.status is not None and self.rest:
+            yield "ended within a line"
+        for line in self.log:
+            if not LOG.fullmatch(line):
+                yield f"printed {line!r}"
+
+    def is_refused_by(self, code: bytes) -> bool:
+        return self.refusal is not None and self.refusal[3].startswith(code + b" ")
+
+
+def may_differ(checked: Answer, run: Answer, files: Files) -> bool:
+    """Whether a check and a run of these files may end otherwise: the run goes on or ends by what it alone sees, or the
+    check does not find what the run has kept."""
+    saves, loads = has(b"Save", files), has(b"Load", files)
+    is_unkept = saves and run.status == 6
+    is_unfound = saves and loads and checked.status == 6
+    is_late = run.is_refused_by(b"S14") or loads and run.is_refused_by(b"S21")
+    return run.status is None or is_unkept or is_unfound or is_late
+
+
+def disagree(checked: Answer, run: Answer, files: Files) -> bool:
+    """Whether a check and a run of these files differ in what both can see."""
+    if may_differ(checked, run, files):
+        return False
+    return checked.status != run.status or (checked.refusal and checked.refusal[0]) != (run.refusal and run.refusal[0])
+
+
+def seconds_of(room: str, words: List[str]) -> float:
+    """Returns how many seconds of the processor a run takes, up to ten."""
+    limited = ["bash", "-c", 'ulimit -t 10; exec "$@"', "-", PROGRAM, *words]
+    child = subprocess.Popen(limited, cwd=room, stdin=subprocess.DEVNULL, stdout=subprocess.DEVNULL)
+    _, status, used = os.wait4(child.pid, 0)
+    child.returncode = -os.WTERMSIG(status) if os.WIFSIGNALED(status) else os.WEXITSTATUS(status)
+    return used.ru_utime + used.ru_stime
+
+
+class Trial:
+    """Laboratories that are damaged one at a time, each worker in a room of its own."""
+
+    def __init__(self, seed: str) -> None:
+        self.seed = seed
+        self.mine = threading.local()
+        self.rooms: List[str] = []
+        self.lock = threading.Lock()
+        self.tried = self.went_on = self.wrong = 0
+        self.statuses: Dict[Union[int, str, None], int] = {}
+
+    def room_for(self, laboratory: Laboratory) -> str:
+        """Returns this worker's room, with the files of the laboratory in it."""
+        if getattr(self.mine, "laboratory", None) is not laboratory:
+            if not getattr(self.mine, "room", None):
+                self.mine.room = tempfile.mkdtemp(prefix="lab-mangle-")
+                with self.lock:
+                    self.rooms.append(self.mine.room)
+            self.mine.laboratory = laboratory
+            furnish_room(self.mine.room, laboratory.files)
+        return self.mine.room
+
+    def try_one(self, laboratory: Laboratory, file: str, place: int, way: str) -> None:
+        room = self.room_for(laboratory)
+        chance = random.Random(f"{self.seed} {laboratory.name} {file} {place} {way}")
+        files = {**laboratory.files, file: damaged(laboratory.files[file], place, way, chance)}
+        put(room, file, files[file])
+        script = next(it for it in laboratory.words[1:] if it in laboratory.files)
+        check, run = ["check", script], laboratory.words
+        checked, ran = Answer(room, check), Answer(room, run)
+        wrong = [f"check {it}" for it in checked.wrong(files)] + [f"run {it}" for it in ran.wrong(files)]
+        if checked.status is None:
+            seconds = seconds_of(room, check)
+            wrong += [f"check takes {seconds:.1f} s"] if seconds > SECONDS else []
+        elif disagree(checked, ran, files):
+            ends = [f"{it.status} {it.printed[-80:]!r}" for it in (checked, ran)]
+            wrong.append(f"check ends with {ends[0]}, run with {ends[1]}")
+        self.count(ran, wrong)
+        if has(b"Save", files):
+            furnish_room(room, files)
+        for it in wrong:
+            kept = tempfile.mkdtemp(prefix="lab-mangled-")
+            shutil.copytree(room, kept, dirs_exist_ok=True)
+            print(f"{laboratory.name}: byte {place} of {file} {way}: lab {' '.join(run)} in {kept}: {it}", flush=True)
+        put(room, file, laboratory.files[file])
+
+    def count(self, ran: Answer, wrong: List[str]) -> None:
+        with self.lock:
+            self.tried += 1
+            self.went_on += ran.status is None
+            self.wrong += bool(wrong)
+            cause = ran.refusal[3].decode() if ran.refusal else ran.status
+            self.statuses[cause] = self.statuses.get(cause, 0) + 1
+
+
+def main(count: Optional[int], seed: str) -> int:
+    chosen = [(it, *damage) for it in laboratories() for damage in it.places()]
+    if count is not None:
+        if count > len(chosen):
+            end_wrong(f"there are {len(chosen)} such files, and not {count}")
+        chosen = [chosen[at] for at in sorted(random.Random(seed).sample(range(len(chosen)), count))]
+    trial = Trial(seed)
+    try:
+        with concurrent.futures.ThreadPoolExecutor(len(os.sched_getaffinity(0))) as workers:
+            for at in range(0, len(chosen), BATCH):
+                for done in workers.map(lambda it: trial.try_one(*it), chosen[at : at + BATCH]):
+                    assert done is None
+    finally:
+        for room in trial.rooms:
+            shutil.rmtree(room, ignore_errors=True)
+    if count is None:
+        print(f"{trial.tried} damaged files, {trial.went_on} runs ended after a second, {trial.wrong} answers wrong")
+        print(", ".join(f"{cause}: {number}" for cause, number in sorted(trial.statuses.items(), key=str)))
+    return 1 if trial.wrong else 0
+
+
+if __name__ == "__main__":
+    sys.exit(main(COUNT, sys.argv[2] if sys.argv[2:] else "1"))

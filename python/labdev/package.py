@@ -1,0 +1,329 @@
+"""Makes the packages of lab: an archive that runs where it is unpacked, and one for Debian.
+
+    tools/package [FOLDER]    makes lab-VERSION-x86_64-linux.tar.gz and lab_VERSION_amd64.deb there, or in out/package
+
+Both have the program, the scripts of tools/ that its users need, the manual page lab(1), made from docs/SCRIPTS.md,
+completion for bash, the changes from version to version, the documents, the demos, and a file SUMS with the version,
+the sum of the sources, the sum of the program and the logic by which they were proved. The program is bin/lab, or the
+one that was built here, whichever was built from the present sources; nothing is built. The same files give the same
+bytes. Without dpkg-deb the archive alone is made, which is told. It ends with 0, with 1 where there is no such program,
+and with 2 where it is called otherwise.
+
+The archive is a folder as the repository is: ./lab, tools/, docs/ and demo/ stand in it. The Debian package puts that
+folder to /usr/lib/lab, its commands to /usr/bin as lab, lab-expect and so on, and documents and demos to
+/usr/share/doc/lab. There each command has a manual page, made from what it answers to --help, and the documents call it
+as it is called there. What lintian would say of it stands in packaging/lintian-overrides, with the reasons.
+"""
+import argparse
+import dataclasses
+import functools
+import gzip
+import hashlib
+import io
+import os
+import pathlib
+import re
+import shutil
+import subprocess
+import sys
+import tarfile
+import tempfile
+from typing import Dict, List, Optional
+
+from labdev.completions import completion as completion_of_scripts
+from labdev.released import Sums, fault_of, sum_of, sums_kept_with
+from labtools.common.manual import manual_page, page_of_script
+from labtools.common.program import TOP, answer_help, named_as_installed
+
+
+# The scripts that serve those who change lab. All others are packed.
+FOR_DEVELOPERS = {
+    "build",
+    "check",
+    "costs",
+    "crates",
+    "cuts",
+    "edges",
+    "mangle",
+    "package",
+    "recipes",
+    "release",
+    "sources",
+    "speed",
+    "starve",
+    "stress",
+    "workers",
+}
+PROGRAMS = TOP / "bin/lab", TOP / "crates/lab_cli/out/lab_cli"
+# What the kit writes into each program that it has proved, and how much of it `rt version` prints.
+LOGIC = re.compile(rb"rattle logic=([0-9a-f]{16})")
+# The date of every packed file, so that the same files give the same bytes: 2026-01-01.
+DATE = 1767225600
+
+
+# What runs of demos leave behind.
+MADE = ".snap", ".sums"
+
+
+class Refused(Exception):
+    """Why nothing is packed."""
+
+
+@dataclasses.dataclass(frozen=True)
+class Entry:
+    """A file of the package, by what it holds, or a link, by where it leads to."""
+
+    held: bytes
+    mode: int = 0o644
+    leads_to: Optional[str] = None
+
+
+def link(leads_to: str) -> Entry:
+    return Entry(b"", 0o777, leads_to)
+
+
+Tree = Dict[str, Entry]
+
+
+def files_below(folder: str) -> Tree:
+    """Returns the files of a folder of the repository by their paths."""
+    tree = {}
+    for path in sorted((TOP / folder).rglob("*")):
+        if path.is_file() and "__pycache__" not in path.parts and path.suffix not in MADE:
+            mode = 0o755 if os.access(path, os.X_OK) else 0o644
+            tree[str(path.relative_to(TOP))] = Entry(path.read_bytes(), mode)
+    return tree
+
+
+def released_program() -> pathlib.Path:
+    """Returns the program that was built from the present sources. bin/lab has to have its sum."""
+    said = subprocess.run([TOP / "tools/sources"], check=True, stdout=subprocess.PIPE, text=True)
+    for program in PROGRAMS:
+        if program.is_file() and sums_kept_with(program).sources == said.stdout.strip():
+            fault = fault_of(program) if program == PROGRAMS[0] else None
+            if fault:
+                raise Refused(fault)
+            return program
+    raise Refused("no program was built from the present sources: tools/build or .ci/run builds it")
+
+
+def version() -> str:
+    return (TOP / "VERSION").read_text(encoding="ascii").strip()
+
+
+def sums(program: bytes, sources: str) -> bytes:
+    """Returns what the file SUMS holds."""
+    logic = LOGIC.search(program)
+    lines = {
+        "version": version(),
+        "sources": sources,
+        "program": sum_of(program),
+        "logic": logic[1].decode() if logic else "unknown: the program does not say it",
+    }
+    return "".join(f"{name} {value}\n" for name, value in lines.items()).encode()
+
+
+def entry_of(path: pathlib.Path) -> Entry:
+    """Returns a script as it stands: a program, or the link that it is."""
+    return link(os.readlink(path)) if path.is_symlink() else Entry(path.read_bytes(), 0o755)
+
+
+def scripts() -> List[pathlib.Path]:
+    """Returns the scripts that are packed."""
+    return [it for it in sorted((TOP / "tools").iterdir()) if it.is_file() and it.name not in FOR_DEVELOPERS]
+
+
+def tools_of_users() -> Tree:
+    """Returns the scripts that are packed, with what they share."""
+    return {
+        **files_below("python/labtools"),
+        "python/launch.py": Entry((TOP / "python/launch.py").read_bytes(), 0o755),
+        **{f"tools/{it.name}": entry_of(it) for it in scripts()},
+    }
+
+
+def commands(program: bytes, sources: str) -> Tree:
+    """Returns what runs: ./lab, the program and the scripts."""
+    return {
+        "lab": Entry((TOP / "lab").read_bytes(), 0o755),
+        "bin/lab": Entry(program, 0o755),
+        "bin/lab.sources": Entry(Sums(sources, sum_of(program)).text.encode()),
+        "VERSION": Entry(f"{version()}\n".encode()),
+        "SUMS": Entry(sums(program, sources)),
+        **tools_of_users(),
+    }
+
+
+def documents() -> Tree:
+    """Returns what is read, and the demos."""
+    return {"README.md": Entry((TOP / "README.md").read_bytes()), **files_below("docs"), **files_below("demo")}
+
+
+@functools.lru_cache(maxsize=None)
+def answers() -> Dict[str, str]:
+    """Returns what each script of the package answers to --help, by its name."""
+    found = {}
+    for script in scripts():
+        said = subprocess.run([str(script), "--help"], check=True, stdout=subprocess.PIPE, text=True)
+        found[script.name] = said.stdout
+    return found
+
+
+def manual(is_installed: bool) -> bytes:
+    """Returns the page of lab, which names the scripts beside it as they are called."""
+    names = ", ".join(f"lab-{it.name}(1)" if is_installed else f"tools/{it.name}" for it in scripts())
+    return manual_page((TOP / "docs/SCRIPTS.md").read_text(encoding="utf-8"), version(), names).encode()
+
+
+def manual_of_script(name: str, answer: str) -> bytes:
+    return page_of_script(f"lab-{name}", answer, version()).encode()
+
+
+def completion(said: Dict[str, str]) -> bytes:
+    text = (TOP / "packaging/completion.bash").read_text(encoding="utf-8")
+    return f"{text}\n{completion_of_scripts(said)}".encode()
+
+
+def changelog() -> bytes:
+    return (TOP / "packaging/changelog").read_bytes()
+
+
+def archive_tree(program: bytes, sources: str) -> Tree:
+    """Returns the files of the archive."""
+    tree = {**commands(program, sources), **documents()}
+    tree["man/lab.1"] = Entry(manual(is_installed=False))
+    tree["completion.bash"] = Entry(completion(answers()))
+    tree["CHANGELOG"] = Entry(changelog())
+    return tree
+
+
+def installed(name: str, entry: Entry) -> Entry:
+    """Returns a document or a file of a demo as the Debian package has it: a text names the commands as they are called
+    there, and an image of firmware is no program of the system."""
+    if name.endswith(".md"):
+        text = named_as_installed(entry.held.decode("utf-8"), [it.name for it in scripts()])
+        return dataclasses.replace(entry, held=text.encode())
+    return dataclasses.replace(entry, mode=0o644) if name.endswith(".elf") else entry
+
+
+def debian_pages() -> Tree:
+    """Returns what Debian wants of a package and of its commands: pages, completion, the changes, and which words of
+    lintian are to be passed over."""
+    said = {name: named_as_installed(text, [it.name for it in scripts()]) for name, text in answers().items()}
+    pages = {"lab": manual(is_installed=True), **{f"lab-{name}": manual_of_script(name, said[name]) for name in said}}
+    completions = "usr/share/bash-completion/completions"
+    return {
+        **{f"usr/share/man/man1/{name}.1.gz": Entry(zipped(page)) for name, page in pages.items()},
+        f"{completions}/lab": Entry(completion(answers())),
+        **{f"{completions}/lab-{name}": link("lab") for name in said},
+        "usr/share/doc/lab/changelog.gz": Entry(zipped(changelog())),
+        "usr/share/lintian/overrides/lab": Entry((TOP / "packaging/lintian-overrides").read_bytes()),
+    }
+
+
+def zipped(held: bytes) -> bytes:
+    return gzip.compress(held, mtime=0)
+
+
+def debian_tree(program: bytes, sources: str) -> Tree:
+    """Returns the files of the Debian package."""
+    tree = {f"usr/lib/lab/{name}": entry for name, entry in commands(program, sources).items()}
+    for name, entry in documents().items():
+        if pathlib.PurePath(name).name != ".gitignore":
+            tree[f"usr/share/doc/lab/{name}"] = installed(name, entry)
+    tree.update(debian_pages())
+    tree["usr/bin/lab"] = link("../lib/lab/lab")
+    tree.update({f"usr/bin/lab-{it.name}": link(f"../lib/lab/tools/{it.name}") for it in scripts()})
+    # So that the commands of demos, and the paths of documents, are true in both folders.
+    for name in "lab", "tools", "python":
+        tree[f"usr/share/doc/lab/{name}"] = link(f"../../../lib/lab/{name}")
+    for name in "demo", "docs":
+        tree[f"usr/lib/lab/{name}"] = link(f"../../share/doc/lab/{name}")
+    return tree
+
+
+def control(tree: Tree) -> bytes:
+    """Returns what the Debian package says of itself."""
+    size = sum(len(entry.held) for entry in tree.values())
+    text = (TOP / "packaging/control").read_text(encoding="utf-8")
+    return text.replace("VERSION", version()).replace("SIZE", str(-(-size // 1024))).encode()
+
+
+def md5sums(tree: Tree) -> bytes:
+    """Returns the sums by which `dpkg --verify` finds files that have changed."""
+    files = {name: entry.held for name, entry in sorted(tree.items()) if entry.leads_to is None}
+    return "".join(f"{hashlib.md5(held).hexdigest()}  {name}\n" for name, held in files.items()).encode()
+
+
+def make_archive(path: pathlib.Path, folder: str, tree: Tree) -> None:
+    """Makes an archive of which all files stand in a folder of this name."""
+    with open(path, "wb") as file, gzip.GzipFile("", "wb", fileobj=file, mtime=DATE) as packed:
+        with tarfile.open(fileobj=packed, mode="w", format=tarfile.USTAR_FORMAT) as archive:
+            for name, entry in sorted(tree.items()):
+                member = tarfile.TarInfo(f"{folder}/{name}")
+                member.mode, member.mtime, member.size = entry.mode, DATE, len(entry.held)
+                member.uname = member.gname = "root"
+                if entry.leads_to is not None:
+                    member.type, member.linkname = tarfile.SYMTYPE, entry.leads_to
+                archive.addfile(member, io.BytesIO(entry.held))
+
+
+def put(root: pathlib.Path, tree: Tree) -> None:
+    """Writes the files of a package below a folder."""
+    for name, entry in sorted(tree.items()):
+        path = root / name
+        path.parent.mkdir(parents=True, exist_ok=True)
+        if entry.leads_to is not None:
+            path.symlink_to(entry.leads_to)
+        else:
+            path.write_bytes(entry.held)
+            path.chmod(entry.mode)
+
+
+def make_debian(path: pathlib.Path, tree: Tree) -> None:
+    """Makes a Debian package."""
+    with tempfile.TemporaryDirectory(prefix="lab-package-") as room:
+        root = pathlib.Path(room) / "root"
+        put(root, tree)
+        put(root, {"DEBIAN/control": Entry(control(tree)), "DEBIAN/md5sums": Entry(md5sums(tree))})
+        for folder in [root, *(it for it in root.rglob("*") if it.is_dir() and not it.is_symlink())]:
+            folder.chmod(0o755)
+        environment = {**os.environ, "SOURCE_DATE_EPOCH": str(DATE)}
+        words = ["dpkg-deb", "--root-owner-group", "-Zgzip", "--build", str(root), str(path)]
+        subprocess.run(words, check=True, env=environment, stdout=subprocess.DEVNULL)
+
+
+def pack(folder: pathlib.Path, program: bytes, sources: str) -> List[pathlib.Path]:
+    """Makes the packages of this program in a folder, and returns their paths."""
+    folder.mkdir(parents=True, exist_ok=True)
+    name = f"lab-{version()}-x86_64-linux"
+    made = [folder / f"{name}.tar.gz"]
+    make_archive(made[0], name, archive_tree(program, sources))
+    if shutil.which("dpkg-deb"):
+        made.append(folder / f"lab_{version()}_amd64.deb")
+        make_debian(made[1], debian_tree(program, sources))
+    return made
+
+
+def main() -> int:
+    answer_help(__doc__)
+    form = argparse.RawDescriptionHelpFormatter
+    parser = argparse.ArgumentParser(description=__doc__, formatter_class=form, usage=argparse.SUPPRESS, add_help=False)
+    parser.add_argument("--help", action="help", help=argparse.SUPPRESS)
+    parser.add_argument("folder", nargs="?", type=pathlib.Path, default=TOP / "out/package", help=argparse.SUPPRESS)
+    words = parser.parse_args()
+    try:
+        program = released_program()
+        made = pack(words.folder, program.read_bytes(), sums_kept_with(program).sources)
+    except (Refused, OSError, subprocess.CalledProcessError) as fault:
+        print(f"tools/package: {fault}", file=sys.stderr)
+        return 1
+    for path in made:
+        print(f"{hashlib.sha256(path.read_bytes()).hexdigest()}  {path}")
+    if len(made) == 1:
+        print("tools/package: the Debian package is not made, without dpkg-deb", file=sys.stderr)
+    return 0
+
+
+if __name__ == "__main__":
+    sys.exit(main())

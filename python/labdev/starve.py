@@ -1,0 +1,178 @@
+"""Runs the program that stands built with one request for memory refused, a run for each: each of the first 1,000
+requests of a laboratory, and then each hundredth up to its last.
+
+    tools/starve            six runs: one board, four boards by two workers, a usual script, sixteen boards, two boards
+                            that are kept, and these taken back
+    tools/starve FIRST      each of the first so many requests
+
+A run has to end as the one that is refused nothing, or with 1 and a front of what that one prints: never by a signal,
+late, with other bytes, or with more blocks of memory not freed. Each is made in a folder of its own, which has the
+snapshot of an earlier one that is refused nothing where the run takes one back. Then the folder has to hold what it did
+before, or what it holds after a run that is refused nothing: so a snapshot is whole, or is not there. Told is what ends
+otherwise, and a line for each laboratory with how its runs have ended. It needs a C compiler, `cc`, for the few lines
+by which requests are counted and one is refused. With LAB set that program is run. It ends with 0 where nothing was
+wrong, with 1 where something was, and with 2 where its words are wrong: FIRST is a number from 1 on.
+"""
+import concurrent.futures
+
+
+import os
+import shutil
+import struct
+import subprocess
+import sys
+import tempfile
+
+from typing import Dict, List, Optional
+
+from labdev import mangle
+from labtools.common.program import TOP, answer_help, end_unless, number_of, path_of_program
+
+
+answer_help(__doc__)
+end_unless(len(sys.argv) < 3, "[FIRST]")
+FIRST = number_of(sys.argv[1], "[FIRST]") if sys.argv[1:] else 1000
+PROGRAM = path_of_program()
+SECONDS = 60
+STEP = 100
+CASES = (
+    ("first_letter", ["run", "reached.resc"]),
+    ("three_senders_arrive_in_order_of_board", ["run", "s.resc", "--workers", "2"]),
+    ("a_usual_script_runs_to_its_time", ["run", "s.resc", "--until", "0.000003"]),
+    ("sixteen_boards_of_64_mib_store_in_three_pages", ["run", "s.resc"]),
+    ("a_laboratory_is_kept_and_taken_back", ["run", "boot.resc"]),
+    ("a_laboratory_is_kept_and_taken_back", ["run", "on.resc"]),
+)
+SOURCE = r"""
+#include <errno.h>
+#include <fcntl.h>
+#include <stdatomic.h>
+#include <stdlib.h>
+#include <sys/mman.h>
+#include <unistd.h>
+
+void *__libc_malloc(size_t);
+void *__libc_calloc(size_t, size_t);
+void *__libc_realloc(void *, size_t);
+void *__libc_memalign(size_t, size_t);
+
+void __libc_free(void *);
+
+/* How many requests there were, and how many blocks are not freed. Both are kept in a file: the program ends without a
+   last call. */
+static struct counts { atomic_ulong requests, held; } own, *counts = &own;
+static unsigned long refused;
+
+__attribute__((constructor)) static void begin(void) {
+  const char *number = getenv("STARVE"), *name = getenv("STARVE_COUNTS");
+  int file = name ? open(name, O_RDWR) : -1;
+  void *kept = file < 0 ? MAP_FAILED : mmap(0, sizeof own, PROT_READ | PROT_WRITE, MAP_SHARED, file, 0);
+  if (kept != MAP_FAILED) counts = kept;
+  counts->requests = counts->held = 0;
+  if (number) refused = strtoul(number, 0, 10);
+}
+
+static int is_refused(void) {
+  if (++counts->requests != refused) return 0;
+  errno = ENOMEM;
+  return 1;
+}
+
+static void *held(void *block) {
+  if (block) ++counts->held;
+  return block;
+}
+
+void free(void *block) {
+  if (block) --counts->held;
+  __libc_free(block);
+}
+
+void *malloc(size_t size) { return is_refused() ? 0 : held(__libc_malloc(size)); }
+void *calloc(size_t count, size_t size) { return is_refused() ? 0 : held(__libc_calloc(count, size)); }
+void *aligned_alloc(size_t align, size_t size) { return is_refused() ? 0 : held(__libc_memalign(align, size)); }
+void *realloc(void *old, size_t size) {
+  if (is_refused()) return 0;
+  return old ? __libc_realloc(old, size) : held(__libc_malloc(size));
+}
+int posix_memalign(void **to, size_t align, size_t size) {
+  void *got = is_refused() ? 0 : held(__libc_memalign(align, size));
+  if (!got) return ENOMEM;
+  *to = got;
+  return 0;
+}
+"""
+
+
+def built(room: str) -> str:
+    """Returns the library that counts requests, made in this folder."""
+    with open(f"{room}/starve.c", "w", encoding="utf-8") as file:
+        file.write(SOURCE)
+    subprocess.run(["cc", "-O2", "-shared", "-fPIC", "-o", f"{room}/starve.so", f"{room}/starve.c"], check=True)
+    return f"{room}/starve.so"
+
+
+Files = Dict[str, bytes]
+
+
+class Answer:
+    """How a run has ended, or None where it went on, what it has printed, how many requests for memory there were, how
+    many blocks were not freed, and which files stand in its folder then."""
+
+    status: Optional[int]
+    printed: bytes
+
+    def __init__(self, library: str, files: Files, words: List[str], number: int = 0) -> None:
+        with tempfile.TemporaryDirectory(prefix="lab-starve-") as room, tempfile.NamedTemporaryFile() as counts:
+            mangle.furnish_room(room, files)
+            counts.write(bytes(16))
+            counts.flush()
+            settings = {"LD_PRELOAD": library, "STARVE": str(number), "STARVE_COUNTS": counts.name}
+            how = {"stdin": subprocess.DEVNULL, "capture_output": True, "timeout": SECONDS, "env": settings}
+            try:
+                ran = subprocess.run([PROGRAM, *words], cwd=room, **how)
+                self.status, self.printed = ran.returncode, ran.stdout
+            except subprocess.TimeoutExpired as late:
+                self.status, self.printed = None, late.stdout or b""
+            counts.seek(0)
+            self.requests, self.held = struct.unpack("<QQ", counts.read(16))
+            self.files = mangle.files_in(room)
+
+    def is_as(self, whole: "Answer") -> bool:
+        return (self.status, self.printed, self.files) == (whole.status, whole.printed, whole.files)
+
+    def is_well(self, whole: "Answer", before: Files) -> bool:
+        is_front = self.status == 1 and whole.printed.startswith(self.printed)
+        return (self.is_as(whole) or is_front) and self.files in (before, whole.files) and self.held <= whole.held
+
+
+def starve(library: str, name: str, words: List[str], first: int) -> bool:
+    """Makes the runs of a laboratory. Returns whether all were well."""
+    laboratory = next(it for it in mangle.of_case(f"{TOP}/cases/{name}.case") if words[1] in it.files)
+    whole = Answer(library, laboratory.files, words)
+    last = whole.requests
+    numbers = [*range(1, min(first, last) + 1), *range(first + STEP, last + 1, STEP)]
+    with concurrent.futures.ThreadPoolExecutor(len(os.sched_getaffinity(0))) as lanes:
+        answers = list(lanes.map(lambda it: Answer(library, laboratory.files, words, it), numbers))
+    wrong = [(number, it) for number, it in zip(numbers, answers) if not it.is_well(whole, laboratory.files)]
+    for number, it in wrong:
+        changed = sorted(file for file in it.files if it.files[file] != laboratory.files.get(file))
+        end = f"ended with {it.status}, {it.printed[-80:]!r}, {it.held} blocks not freed and {changed} made"
+        print(f"{name}: {' '.join(words)}: request {number} refused: {end}")
+    same = sum(it.is_as(whole) for it in answers)
+    ends = f"{same} ended as without, {len(answers) - same} otherwise; blocks not freed without: {whole.held}"
+    print(f"{name}: {' '.join(words)}: {last} requests; of {len(answers)} runs {ends}")
+    return not wrong
+
+
+def main() -> int:
+    room = tempfile.mkdtemp(prefix="lab-starve-")
+    try:
+        library = built(room)
+        return 0 if all([starve(library, *case, FIRST) for case in CASES]) else 1
+    finally:
+        shutil.rmtree(room)
+
+
+if __name__ == "__main__":
+    sys.exit(main())

@@ -1,0 +1,131 @@
+"""Times what workers bring: runs of sixteen boards by one, two, four and eight workers.
+
+    tools/workers [--lab PROGRAM] [--times N] [NAME ..]
+    tools/workers --list
+
+Each run is made N times, five where nothing else is said, by each number of workers in turn, and the least is told: the
+seconds that it took, and in brackets those of all processors. It says something only where as many processors as there
+are workers have nothing else to do. The logs of a run have to be the same, whoever made it. Without names all are
+timed, which takes two minutes. docs/SPEED.md has the figures of one machine.
+
+    --lab PROGRAM    times this program, and else that of the variable LAB, or the one that ./lab runs
+    --times N        makes each run so many times
+    --list           prints the names of the runs, and makes none
+
+It prints a table in Markdown. It ends with 0, with 1 where a run has failed, the logs differ or the table cannot be
+written, and with 2 where its words are wrong or there is no such program.
+"""
+import argparse
+import os
+import pathlib
+import resource
+import subprocess
+import sys
+import tempfile
+import time
+from typing import Dict, List, NamedTuple, Tuple
+
+from labdev.speed_loads import BOARDS, PROGRAMS, Form, Run, board, files, run_for, time_text
+from labtools.common.program import answer_help, end_with, found_program, path_of_program
+
+
+WORKERS = 1, 2, 4, 8
+# How long a run may take, in seconds.
+SECONDS = 600
+HALTED = "cpu0 IsHalted true"
+
+
+class Failed(Exception):
+    """A run that did not end as it has to: how."""
+
+
+class Times(NamedTuple):
+    """What a run took, in seconds: by the clock, and of all processors."""
+
+    clock: float
+    processors: float
+
+
+def boards(kind: str, quantum: int, micros: int, awake: int = BOARDS, mips: int = 100) -> Run:
+    """Returns a run of sixteen boards, of which so many are not halted, in rounds of a quantum, in microseconds."""
+    form = Form(mips=mips)
+    script = [f'emulation SetGlobalQuantum "{time_text(quantum)}"']
+    for number in range(BOARDS):
+        script += [*board(number, form), *([HALTED] if number >= awake else [])]
+    return Run(["run", "s.resc"], files(form, PROGRAMS[kind], [*script, run_for(micros)]), None)
+
+
+RUNS: Dict[str, Run] = {
+    "1ms": boards("additions", 1_000, 100_000),
+    "100us": boards("additions", 100, 100_000),
+    "10us": boards("additions", 10, 100_000),
+    "gen": Run(["gen", "7", str(BOARDS)], {}, None),
+    "two-awake": boards("additions", 1_000, 1_000_000, awake=2),
+    "asleep": boards("waits", 1_000, 1_000_000, mips=1),
+    "halted": boards("additions", 1_000, 1_000_000, awake=0),
+}
+
+
+def timed(program: str, words: List[str], room: str) -> Tuple[Times, bytes]:
+    """Makes a run, and returns what it took and what it printed."""
+    before = resource.getrusage(resource.RUSAGE_CHILDREN)
+    start = time.monotonic()
+    ran = subprocess.run([program, *words], cwd=room, stdin=subprocess.DEVNULL, capture_output=True, timeout=SECONDS)
+    clock = time.monotonic() - start
+    after = resource.getrusage(resource.RUSAGE_CHILDREN)
+    if ran.returncode != 0:
+        raise Failed(f"it ended with {ran.returncode}: {ran.stdout[-200:].decode(errors='replace')}")
+    return Times(clock, after.ru_utime + after.ru_stime - before.ru_utime - before.ru_stime), ran.stdout
+
+
+def least(program: str, run: Run, times: int) -> List[Times]:
+    """Returns the least of so many runs, by the clock, for each number of workers."""
+    found: List[List[Times]] = [[] for _ in WORKERS]
+    logs = set()
+    with tempfile.TemporaryDirectory(prefix="lab-workers-") as room:
+        for name, held in run.files.items():
+            (pathlib.Path(room) / name).write_bytes(held)
+        for _ in range(times):
+            for row, workers in zip(found, WORKERS):
+                took, log = timed(program, [*run.words, "--workers", str(workers)], room)
+                row.append(took)
+                logs.add(log)
+    if len(logs) > 1:
+        raise Failed("its logs differ")
+    return [min(row) for row in found]
+
+
+def main() -> int:
+    answer_help(__doc__)
+    usage = "tools/workers [--lab PROGRAM] [--times N] [NAME ..]"
+    form = argparse.RawDescriptionHelpFormatter
+    parser = argparse.ArgumentParser(prog="tools/workers", usage=usage, description=__doc__, formatter_class=form)
+    parser.add_argument("--lab", help=argparse.SUPPRESS)
+    parser.add_argument("--times", type=int, default=5, help=argparse.SUPPRESS)
+    parser.add_argument("--list", action="store_true", help=argparse.SUPPRESS)
+    parser.add_argument("names", nargs="*", help=argparse.SUPPRESS)
+    words = parser.parse_args()
+    for name in words.names:
+        if name not in RUNS:
+            parser.error(f"no run has the name {name}: see --list")
+    if words.times < 1:
+        parser.error("a run is made once at least")
+    if words.list:
+        print("\n".join(RUNS))
+        return 0
+    program = found_program(os.path.abspath(words.lab)) if words.lab else path_of_program()
+    print("| Run | " + " | ".join(f"{it} worker{'s' * (it > 1)}" for it in WORKERS) + " |")
+    print("|---" * (len(WORKERS) + 1) + "|")
+    for name in words.names or RUNS:
+        try:
+            took = least(program, RUNS[name], words.times)
+        except (Failed, subprocess.TimeoutExpired) as fault:
+            print(f"tools/workers: {name}: {fault}", file=sys.stderr)
+            return 1
+        cells = [f"{it.clock:.3f} ({it.processors:.3f})" for it in took]
+        print(f"| {name} | " + " | ".join(cells) + " |", flush=True)
+    return 0
+
+
+if __name__ == "__main__":
+    end_with(main)

@@ -1,0 +1,123 @@
+"""Tries the wrong bodies that stand beside the crates: the prover has to refuse each edit in crates/NAME/wrong/.
+
+    tools/wrong NAME ..    tries those of these crates
+    tools/wrong --stale    those of the crates whose sources or edits have changed since they were tried
+    tools/wrong --all      those of every crate: half an hour on four processors where all is proved, else longer
+    tools/wrong --check    tries nothing, and says which crates have changed since; .ci/run asks this
+
+`rt ci NAME ..` tries them, over a copy of the tree in which they stand in must-fail/; so the crates are proved first
+where no gate on this machine has proved them. Where all edits of a crate were refused, crates/NAME/wrong/tried gets the
+sum of the crate's own sources and that of each edit. It is committed with the change. It ends with 0, with 1 where an
+edit was not refused or a crate has changed since its edits were tried, and with 2 where it is called otherwise.
+"""
+import os
+import pathlib
+import re
+import shutil
+import subprocess
+import sys
+import tempfile
+from typing import List, Set
+
+from labdev.wrong_bodies import WrongBodies, crates_with_wrong_bodies
+from labtools.common.program import TOP, answer_help, end_unless, end_with, end_wrong
+
+
+USAGE = "NAME .. | --stale | --all | --check"
+# What rt says of an edit that the prover has refused.
+REFUSED = re.compile(r"must-fail (\w+)/(\S+\.edit): refused, as it must be")
+
+
+def asked_for(words: List[str]) -> List[WrongBodies]:
+    """Returns the crates whose edits are to be tried."""
+    every = {it.name: it for it in crates_with_wrong_bodies(TOP)}
+    if words == ["--all"]:
+        return list(every.values())
+    if words == ["--stale"]:
+        return [it for it in every.values() if not it.is_tried()]
+    lacking = [it for it in words if it not in every]
+    end_unless(not lacking, USAGE, f"crates/{lacking[0]}/wrong has no edits" if lacking else "")
+    return [every[it] for it in words]
+
+
+def copy_tree(crates: List[WrongBodies], to: pathlib.Path) -> None:
+    """Copies what rt reads, with the edits of these crates, and no others, in their folders must-fail/ too."""
+    shutil.copytree(TOP / "crates", to / "crates", ignore=shutil.ignore_patterns("out", "must-fail"))
+    for name in "crates.txt", "HANDLES":
+        shutil.copy(TOP / name, to)
+    for crate in crates:
+        folder = to / "crates" / crate.name
+        (folder / "must-fail").mkdir()
+        for edit in WrongBodies(folder).edits():
+            shutil.copy(edit, folder / "must-fail")
+
+
+def refused_by_prover(crates: List[WrongBodies], folder: pathlib.Path) -> Set[str]:
+    """Has rt try the edits in that copy, showing what it says, and returns those that were refused, as CRATE/EDIT."""
+    # rt takes names of crates only where it is not the gate.
+    environment = {name: text for name, text in os.environ.items() if name != "CI"}
+    words = ["rt", "ci", *(it.name for it in crates)]
+    refused = set()
+    with subprocess.Popen(
+        words,
+        cwd=folder,
+        env=environment,
+        stdout=subprocess.PIPE,
+        stderr=subprocess.STDOUT,
+        text=True,
+        errors="replace",
+    ) as ran:
+        assert ran.stdout is not None
+        for line in ran.stdout:
+            if line.startswith("rt: "):
+                print(line, end="", flush=True)
+            refused |= {f"{crate}/{edit}" for crate, edit in REFUSED.findall(line)}
+    return refused
+
+
+def try_edits(crates: List[WrongBodies]) -> int:
+    """Tries the edits of these crates, and keeps the sums of those crates of which each was refused."""
+    if not shutil.which("rt"):
+        end_wrong("the Rattle kit is needed, whose command is rt")
+    with tempfile.TemporaryDirectory(prefix="lab-wrong-") as room:
+        folder = pathlib.Path(room)
+        copy_tree(crates, folder)
+        # (of the copy, which nobody changes meanwhile)
+        sums = {it.name: WrongBodies(folder / "crates" / it.name).sums() for it in crates}
+        refused = refused_by_prover(crates, folder)
+    failed = False
+    for crate in crates:
+        missed = [it for it in sums[crate.name] if it != "sources" and f"{crate.name}/{it}" not in refused]
+        for edit in missed:
+            print(f"crates/{crate.name}/wrong/{edit} was not refused")
+        if not missed:
+            crate.keep(sums[crate.name])
+        failed = failed or bool(missed)
+    print(f"{len(refused)} wrong bodies refused in {len(crates)} crates")
+    return 1 if failed else 0
+
+
+def check() -> int:
+    """Says which crates have changed since their edits were tried."""
+    every = crates_with_wrong_bodies(TOP)
+    stale = [it.name for it in every if not it.is_tried()]
+    if stale:
+        print(f"the wrong bodies of these crates were tried over other sources: run tools/wrong {' '.join(stale)}")
+        return 1
+    print(f"{sum(len(it.edits()) for it in every)} wrong bodies were refused over the present sources of their crates")
+    return 0
+
+
+def main() -> int:
+    words = sys.argv[1:]
+    is_word = words in (["--all"], ["--stale"], ["--check"])
+    end_unless(bool(words) and (is_word or not any(it.startswith("-") for it in words)), USAGE)
+    if words == ["--check"]:
+        return check()
+    crates = asked_for(words)
+    return try_edits(crates) if crates else 0
+
+
+if __name__ == "__main__":
+    answer_help(__doc__)
+    end_with(main)

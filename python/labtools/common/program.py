@@ -1,0 +1,154 @@
+"""What the scripts of tools/ share: where the program stands that they run, what they say of wrong words and of outputs
+that fail, and their answer to --help."""
+import contextlib
+import os
+import pathlib
+import re
+import shutil
+import signal
+import subprocess
+import sys
+from types import ModuleType
+from typing import Callable, Collection, NoReturn, Optional
+
+TOP = pathlib.Path(__file__).resolve().parents[3]
+
+
+# A script of tools/ and ./lab as texts name them, but not as the ends of longer paths.
+NAMED = re.compile(r"(?<![\w./)}-])tools/([a-z]+)\b(?!\.)")
+LAB = re.compile(r"(?<![\w./])\./lab\b(?![\w./-])")
+
+
+def named_as_installed(text: str, scripts: Collection[str]) -> str:
+    """Returns a text in which these scripts and ./lab have the names that they have where a package is installed: lab
+    for ./lab, and lab-log for tools/log."""
+    text = NAMED.sub(lambda it: f"lab-{it[1]}" if it[1] in scripts else it[0], text)
+    return LAB.sub("lab", text)
+
+
+def is_called_as_installed() -> bool:
+    return os.path.basename(sys.argv[0]).startswith("lab-")
+
+
+def as_called(text: Optional[str]) -> str:
+    """Returns a text of the script that runs, in which commands have the names by which this one was called."""
+    if not is_called_as_installed():
+        return text or ""
+    return named_as_installed(text or "", {it.name for it in (TOP / "tools").iterdir() if it.is_file()})
+
+
+def name_of_script() -> str:
+    """Returns the name of the script that runs: tools/log, or lab-log where it was called so, or its path where it
+    stands elsewhere."""
+    if is_called_as_installed():
+        return os.path.basename(sys.argv[0])
+    path = pathlib.Path(sys.argv[0]).parent.resolve() / os.path.basename(sys.argv[0])
+    return str(path.relative_to(TOP)) if TOP in path.parents else sys.argv[0]
+
+
+def end_wrong(text: object, status: int = 2) -> NoReturn:
+    """Ends the script with a line on the standard error."""
+    # It may be full, or closed: it is none then.
+    with contextlib.suppress(OSError, AttributeError):
+        sys.stderr.write(f"{name_of_script()}: {text}\n")
+        sys.stderr.flush()
+    raise SystemExit(status)
+
+
+def end_unless(is_well: bool, usage: str, fault: str = "these words are not taken") -> None:
+    """Ends the script where its words are not well: a line says why, and which words it takes."""
+    if not is_well:
+        end_wrong(f"{fault}: {name_of_script()} {usage}".rstrip())
+
+
+def number_of(word: str, usage: str, most: int = 999_999_999) -> int:
+    """Returns the number that a word is, from 1 on, or ends the script."""
+    is_number = re.fullmatch("[1-9][0-9]*", word) and len(word) <= len(str(most)) and int(word) <= most
+    end_unless(bool(is_number), usage, f"{word} is no number from 1 to {most}")
+    return int(word)
+
+
+def found_program(path: str) -> str:
+    """Returns where a program is, or ends the script where it is none that can be run."""
+    found = shutil.which(path)
+    if found is None:
+        end_wrong(f"{path} is no program that can be run")
+    return os.path.abspath(found)
+
+
+def path_of_program() -> str:
+    """Returns the path in LAB, or else that of the program that ./lab runs, which builds it where it has to. Ends the
+    script where there is none."""
+    given = os.environ.get("LAB")
+    if given:
+        return found_program(given)
+    said = subprocess.run([TOP / "lab", "--program"], stdout=subprocess.PIPE, text=True)
+    if said.returncode != 0:
+        raise SystemExit(said.returncode)
+    return said.stdout.rstrip("\n")
+
+
+def standing_program() -> Optional[str]:
+    """Returns the path in LAB, or else that of the program that ./lab runs. It builds none, and returns None where no
+    program stands or ./lab finds it damaged."""
+    given = os.environ.get("LAB")
+    if given:
+        return shutil.which(given)
+    lab = str(TOP / "lab")
+    with contextlib.suppress(OSError, subprocess.CalledProcessError):
+        if b", of which no program is built yet" not in said_by(lab, "--version"):
+            return os.fsdecode(said_by(lab, "--program")).rstrip("\n")
+    return None
+
+
+def said_by(*words: str) -> bytes:
+    """Returns what a command prints that ends with 0."""
+    how = {"stdin": subprocess.DEVNULL, "stdout": subprocess.PIPE, "stderr": subprocess.DEVNULL}
+    return subprocess.run(words, check=True, **how).stdout
+
+
+def end_with_reader() -> None:
+    """From now on this script ends in silence where nobody reads on what it prints, as with `| head`."""
+    signal.signal(signal.SIGPIPE, signal.SIG_DFL)
+
+
+def open_output() -> None:
+    """Makes a standard output that is closed one that cannot be written, so that this is seen."""
+    if sys.stdout is None:
+        sys.stdout = os.fdopen(os.open(os.devnull, os.O_RDONLY), "w")
+
+
+def drop_output() -> None:
+    """Lets what could not be written go, so that nothing is told of it at the end."""
+    with contextlib.suppress(OSError, AttributeError):
+        os.dup2(os.open(os.devnull, os.O_WRONLY), sys.stdout.fileno())
+
+
+def end_with(main: Callable[[], Optional[int]], failed: int = 1) -> NoReturn:
+    """Ends the script with what it answers: in silence where nobody reads on what it prints, and with a line and the
+    status `failed` where that cannot be written, or a file cannot be read."""
+    end_with_reader()
+    open_output()
+    try:
+        try:
+            status = main()
+        finally:
+            sys.stdout.flush()
+    except OSError as fault:
+        drop_output()
+        end_wrong(fault, failed)
+    raise SystemExit(status)
+
+
+def answer_help(head: Optional[str], failed: int = 1) -> None:
+    """Where the one word is --help, prints the head of the script and ends it."""
+    if sys.argv[1:] == ["--help"]:
+        end_with(lambda: print(as_called(head).strip()), failed)
+
+
+def run_tool(tool: ModuleType) -> NoReturn:
+    """Runs a tool with the words of the command line, and ends with what it answers. A tool is a module with a function
+    `main`, which takes the words. To --help it answers with the text of the module. `UNWRITTEN` is its status where what
+    it prints cannot be written, if that is not 1."""
+    answer_help(tool.__doc__, getattr(tool, "UNWRITTEN", 1))
+    end_with(lambda: tool.main(sys.argv[1:]), getattr(tool, "UNWRITTEN", 1))

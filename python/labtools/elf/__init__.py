@@ -1,0 +1,1 @@
+"""ELF files: functions, lines, call frames."""

@@ -1,0 +1,1 @@
+"""Scripts and platform files, read without running them."""

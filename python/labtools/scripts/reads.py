@@ -1,0 +1,569 @@
+"""Which files a script reads, in order, and which line asks for each. Nothing is run: only scripts, platform files and
+snapshots are opened.
+
+    reads.files_read("demo/hub/s.resc", pathlib.Path("."))
+
+gives a `FileRead` for each file, the script itself first. `reads.follow` gives more: the line at which lab refuses the
+script, as far as that can be told without boards, the files of `Save`, and what happens to each board. Both go on after
+an image or a platform file that is not there, which lab does not: it ends with status 4 at the first record that is not
+there. They end at a script or a snapshot that is not there, since what follows depends on it.
+
+Not looked for are the causes S7, S8, S9, S14, S16, the S19 of a `Save`, and all of platform files and images: after
+such a line lab reads no more, and the list goes on. Of S20 the form of the snapshot is looked at alone.
+"""
+import os
+import pathlib
+from dataclasses import dataclass, field, replace
+from typing import Any, Callable, Dict, List, Optional, Sequence, Tuple, Union
+
+from labtools.boards import snapshot
+from labtools.scripts import repl
+from labtools.scripts import resc
+from labtools.scripts.resc import Line, Refused
+
+
+FILE_LIMIT = 16 * 2**20
+SNAPSHOT_LIMIT = 64 * 2**20
+TIME_LIMIT = 10**10
+DEFAULT_UNTIL = 10**6
+# How many scenes of a line are kept: the first ones, and always the last.
+SCENE_LIMIT = 100
+COMMAND_LIMIT = 100_000
+DEPTH_LIMIT = 8
+PLATFORM_LIMIT = 64
+BOARD_LIMIT = 16
+
+IMAGES = {"sysbus LoadELF": "elf", "sysbus LoadHEX": "hex", "sysbus LoadBinary": "binary"}
+
+
+@dataclass(frozen=True)
+class Step:
+    """A line on the way to a file: its place, FILE:LINE, and its text without the blanks around it."""
+
+    place: str
+    text: str
+
+
+Chain = Tuple[Step, ...]
+
+
+@dataclass(frozen=True)
+class FileRead:
+    """A file that is read. `kind` is script, platform, elf, hex, binary or snapshot. `chain` has the lines that lead to
+    it, the script's own first: those that run macros, include files or name platform files by `using`, and before each
+    the lines that have set the variables in its path. The last one asks for the file. `board` is the name of the board
+    that a platform or an image is for."""
+
+    path: str
+    kind: str
+    is_there: bool
+    chain: Chain
+    board: str = ""
+
+    @property
+    def asked_by(self) -> str:
+        """The place that asks for the file, and nothing for the script itself."""
+        return self.chain[-1].place if self.chain else ""
+
+    @property
+    def is_image(self) -> bool:
+        return self.kind in IMAGES.values()
+
+
+@dataclass(frozen=True)
+class Refusal:
+    """A line that lab refuses: FILE:LINE, its text, and the cause as lab prints it."""
+
+    place: str
+    text: str
+    cause: str
+    chain: Chain
+
+
+@dataclass
+class Board:
+    """A board, and what the script has done with it. `cpu_type` is what its platform files say last, and `processors`
+    how many they have, which is not known of a board of a snapshot; `plan` is what the snapshot says of it. `ran_with`
+    is the last image that it had when it was run before any line had set a pc."""
+
+    name: str
+    has_platform: bool = False
+    cpu_type: str = ""
+    processors: int = 0
+    files: List[FileRead] = field(default_factory=list)
+    has_pc: bool = False
+    ran_with: Optional[FileRead] = None
+    plan: Optional[Dict[str, Any]] = None
+
+    @property
+    def has_compressed(self) -> bool:
+        """Whether its processors take compressed instructions."""
+        if self.plan is not None:
+            return bool(self.plan["letters"]["c"])
+        return "c" in self.cpu_type.partition("_")[0][4:]
+
+    def run(self) -> None:
+        if self.files and self.files[-1].is_image and not self.has_pc:
+            self.ran_with = self.files[-1]
+
+
+@dataclass(frozen=True)
+class Scene:
+    """What stood as a watched line was taken: the lines that lead to it, its words with their variables replaced as far
+    as they are set, the selected board, all boards, the hubs by name with their kinds, the hub and the line by which a
+    device of a board was joined, the line that has made each name, the variables, the macros, and how many commands
+    were taken before."""
+
+    chain: Chain
+    words: List[str]
+    board: Optional[Board]
+    boards: List[Board]
+    hubs: Dict[str, str]
+    joined: Dict[Tuple[str, str], Tuple[str, str]]
+    names: Dict[str, str]
+    variables: List[str]
+    macros: List[str]
+    taken: int
+
+
+@dataclass
+class Reading:
+    """What a script reads. `saves` has the files of `Save`, each with whether its folder is there. `runs` counts the
+    commands that run the boards, `starts` those of them that are `start`, and `time` is how long all do in
+    microseconds, where no finisher ends one. `past_limit` is the first run that would end too late then, and after how
+    many commands. `scenes` has those of the watched line."""
+
+    files: List[FileRead] = field(default_factory=list)
+    saves: List[FileRead] = field(default_factory=list)
+    boards: List[Board] = field(default_factory=list)
+    runs: int = 0
+    starts: int = 0
+    time: int = 0
+    refusal: Optional[Refusal] = None
+    past_limit: Optional[Tuple[Refusal, int]] = None
+    scenes: List[Scene] = field(default_factory=list)
+
+
+@dataclass(frozen=True)
+class Value:
+    """What a variable stands for, and the lines that have made it so."""
+
+    word: str
+    chain: Chain
+
+
+@dataclass(frozen=True)
+class Macro:
+    file: str
+    body: Tuple[Line, ...]
+
+
+class Ended(Exception):
+    """No more is read: `quit`, or a file is not there on which all that follows depends."""
+
+
+class RefusedAt(Exception):
+    def __init__(self, refusal: Refusal) -> None:
+        super().__init__(refusal.cause)
+        self.refusal = refusal
+
+
+def is_readable(path: pathlib.Path) -> bool:
+    """Whether a file is there and may be read. Those of os.path say no also where no path can be so."""
+    return os.path.exists(path) and not os.path.isdir(path) and os.access(path, os.R_OK)
+
+
+def content_of(path: pathlib.Path) -> bytes:
+    """The bytes of a file. What comes from a pipe is not taken from those who are to read it."""
+    return path.read_bytes() if os.path.isfile(path) else b""
+
+
+def bad_line(content: bytes) -> int:
+    """The line of the first byte that is no UTF-8, or 0."""
+    try:
+        content.decode()
+    except UnicodeDecodeError as fault:
+        return content.count(b"\n", 0, fault.start) + 1
+    return 0
+
+
+class Walk:
+    """Takes the commands of a script one after another."""
+
+    def __init__(self, folder: pathlib.Path, until: int, watched: str) -> None:
+        self.folder = folder
+        self.until = until
+        self.watched = watched
+        self.reading = Reading()
+        self.variables: Dict[str, Value] = {}
+        self.macros: Dict[str, Macro] = {}
+        self.taken = 0
+        self.depth = 0
+        # the place of the line that has made each board and each hub, and the kinds of the hubs
+        self.names: Dict[str, str] = {}
+        self.hubs: Dict[str, str] = {}
+        self.joined: Dict[Tuple[str, str], Tuple[str, str]] = {}
+        self.selected: Optional[Board] = None
+        # what the lines of the open bodies have in front of their own place
+        self.chain: Chain = ()
+        # the command that is taken
+        self.here: Step = Step("", "")
+        self.asking: Chain = ()
+
+    # ---- files
+
+    def note(self, path: str, kind: str, chain: Chain) -> FileRead:
+        """A file is read by the line that ends the chain."""
+        board = self.selected.name if self.selected and kind not in ("script", "snapshot") else ""
+        read = FileRead(path, kind, is_readable(self.folder / path), chain, board)
+        self.reading.files.append(read)
+        return read
+
+    def refuse(self, cause: str, place: str = "", text: str = "", chain: Chain = ()) -> RefusedAt:
+        if place:
+            return RefusedAt(Refusal(place, text, cause, chain))
+        return RefusedAt(Refusal(self.here.place, self.here.text, cause, self.asking))
+
+    def is_large(self, path: str, limit: int = FILE_LIMIT) -> bool:
+        file = self.folder / path
+        return os.path.isfile(file) and os.path.getsize(file) > limit
+
+    def text(self, path: str, chain: Chain) -> str:
+        """The text of a script or a platform file that is there."""
+        content = content_of(self.folder / path)
+        line = bad_line(content)
+        if line:
+            raise self.refuse("S18 not utf-8", f"{path}:{line}", "", chain)
+        return content.decode()
+
+    # ---- bodies
+
+    def body(self, file: str, lines: Sequence[Line], chain: Chain) -> None:
+        """Takes the lines of a body, which the last line of the chain has opened."""
+        outer, self.chain = self.chain, chain
+        for item in resc.items_of(lines):
+            self.take(file, item)
+        self.chain = outer
+
+    def inner(self, file: str, lines: Sequence[Line], chain: Chain) -> None:
+        """A body within others, of which there may be 8."""
+        if self.depth == DEPTH_LIMIT:
+            raise self.refuse("S11 depth")
+        self.depth += 1
+        self.body(file, lines, chain)
+        self.depth -= 1
+
+    def script(self, path: str) -> None:
+        """Takes the script itself."""
+        read = self.note(path, "script", ())
+        if not read.is_there:
+            raise Ended
+        if self.is_large(path):
+            raise self.refuse("S19 size", f"{path}:0")
+        self.body(path, resc.numbered(self.text(path, ())), ())
+
+    def take(self, file: str, item: resc.Item) -> None:
+        self.here = Step(f"{file}:{item.line.number}", item.line.text.strip(" \t"))
+        self.asking = self.chain + (self.here,)
+        if self.here.place == self.watched:
+            self.watch(self.scene(item.line.text))
+        if isinstance(item, resc.Unclosed):
+            raise self.refuse("S17 unclosed")
+        if self.taken == COMMAND_LIMIT:
+            raise self.refuse("S12 commands")
+        self.taken += 1
+        if isinstance(item, resc.Define):
+            self.macros[item.name] = Macro(file, item.body)
+        elif isinstance(item, resc.Assign):
+            self.assign(item)
+        else:
+            self.command(item)
+
+    def watch(self, scene: Scene) -> None:
+        scenes = self.reading.scenes
+        if len(scenes) == SCENE_LIMIT:
+            scenes.pop()
+        scenes.append(scene)
+
+    def scene(self, text: str) -> Scene:
+        """What stands before a line is taken."""
+        words = resc.sides_of(text)
+        own = 2 if resc.names_macro(words) else 0
+        values = {f"${name}": value.word for name, value in self.variables.items()}
+        return Scene(
+            self.chain,
+            words[:own] + [values.get(word, word) for word in words[own:]],
+            replace(self.selected, files=list(self.selected.files)) if self.selected else None,
+            [replace(board) for board in self.reading.boards],
+            dict(self.hubs),
+            dict(self.joined),
+            dict(self.names),
+            list(self.variables),
+            list(self.macros),
+            self.taken,
+        )
+
+    def assign(self, item: resc.Assign) -> None:
+        value = Value(item.value, (self.here,))
+        name = resc.variable_of(item.value)
+        if name is not None:
+            if name not in self.variables:
+                raise self.refuse("S3 variable")
+            behind = self.variables[name]
+            value = Value(behind.word, behind.chain + (self.here,))
+        if not (item.only_if_unset and item.name in self.variables):
+            self.variables[item.name] = value
+
+    def command(self, item: resc.Command) -> None:
+        words = resc.words_of(item.line.text)
+        if not item.is_malformed:
+            words = self.replaced(words)
+        try:
+            row, values = resc.command_of(words)
+        except Refused as fault:
+            raise self.refuse(str(fault)) from fault
+        does = DOES.get(row.name)
+        if does:
+            does(self, row.name, values)
+
+    def replaced(self, words: Sequence[str]) -> List[str]:
+        """The words of a command with their variables replaced, but for the name of a macro."""
+        own = 2 if resc.names_macro(words) else 0
+        return list(words[:own]) + [self.meant(word) for word in words[own:]]
+
+    def meant(self, word: str) -> str:
+        """What stands for a word. The lines that have set a path go into the command's chain."""
+        name = resc.variable_of(word)
+        if name is None:
+            return word
+        value = self.variables.get(name)
+        if value is None:
+            raise self.refuse("S3 variable")
+        if value.word.startswith("@"):
+            self.asking = self.chain + value.chain + (self.here,)
+        return value.word
+
+    # ---- boards
+
+    def board(self) -> Board:
+        if self.selected is None:
+            raise self.refuse("S4 no board")
+        return self.selected
+
+    def equipped(self) -> Board:
+        board = self.board()
+        if not board.has_platform:
+            raise self.refuse("S15 platform")
+        return board
+
+    def take_name(self, name: str) -> None:
+        if name in self.names:
+            raise self.refuse("S6 taken")
+        self.names[name] = self.here.place
+
+    def create(self, _: str, values: List[Any]) -> None:
+        name = values[0] if values else f"machine-{len(self.reading.boards)}"
+        self.take_name(name)
+        if len(self.reading.boards) == BOARD_LIMIT:
+            raise self.refuse("S13 boards")
+        self.selected = Board(name)
+        self.reading.boards.append(self.selected)
+
+    def select(self, _: str, values: List[Any]) -> None:
+        name = values[0]
+        boards = self.reading.boards
+        named = [board for board in boards if board.name == name]
+        number = resc.number_of(name)
+        if not named and number is not None:
+            named = boards[number : number + 1]
+        if not named:
+            raise self.refuse("S5 board")
+        self.selected = named[0]
+
+    def hub(self, command: str, values: List[Any]) -> None:
+        self.take_name(values[0])
+        self.hubs[values[0]] = "uart" if command == "emulation CreateUARTHub" else "can"
+
+    def connect(self, _: str, values: List[Any]) -> None:
+        board = self.equipped()
+        self.joined.setdefault((board.name, resc.entry_of(values[0])), (values[1], self.here.place))
+
+    def platform(self, _: str, values: List[Any]) -> None:
+        board = self.board()
+        if board.has_platform:
+            raise self.refuse("S15 platform")
+        board.has_platform = True
+        read = self.note(values[0], "platform", self.asking)
+        board.files.append(read)
+        if self.is_large(read.path):
+            raise self.refuse("S19 size")
+        if read.is_there:
+            PlatformWalk(self, board).file(read, DEPTH_LIMIT - self.depth)
+
+    def reset(self, _: str, values: List[Any]) -> None:
+        self.equipped().has_pc = False
+
+    def on_board(self, _: str, values: List[Any]) -> None:
+        self.equipped()
+
+    def pc(self, _: str, values: List[Any]) -> None:
+        board = self.equipped()
+        board.has_pc = board.has_pc or bool(values)
+
+    def speed(self, _: str, values: List[Any]) -> None:
+        board = self.equipped()
+        if values and values[0] * board.processors > 1000:
+            raise self.refuse(resc.ARGUMENTS)
+
+    def image(self, command: str, values: List[Any]) -> None:
+        board = self.equipped()
+        read = self.note(values[0], IMAGES[command], self.asking)
+        board.files.append(read)
+        if self.is_large(read.path):
+            raise self.refuse("S19 size")
+        begins_at_0 = read.kind == "binary" and values[1] == 0
+        board.has_pc = board.has_pc or read.kind == "elf" or begins_at_0
+
+    # ---- the whole laboratory
+
+    def run(self, command: str, values: List[Any]) -> None:
+        if not all(board.has_platform for board in self.reading.boards):
+            raise self.refuse("S15 platform")
+        self.reading.starts += command == "start"
+        until = self.reading.time + values[0] if values else max(self.reading.time, self.until)
+        if until > TIME_LIMIT and self.reading.past_limit is None:
+            self.reading.past_limit = self.refuse("S14 lab time").refusal, self.taken - 1
+        if until > self.reading.time:
+            self.reading.runs += 1
+            self.reading.time = until
+            for board in self.reading.boards:
+                board.run()
+
+    def save(self, _: str, values: List[Any]) -> None:
+        is_there = os.path.isdir((self.folder / values[0]).parent)
+        self.reading.saves.append(FileRead(values[0], "snapshot", is_there, self.asking))
+
+    def load(self, _: str, values: List[Any]) -> None:
+        if self.reading.boards or self.hubs or self.reading.time:
+            raise self.refuse("S21 occupied")
+        read = self.note(values[0], "snapshot", self.asking)
+        if not read.is_there:
+            raise Ended
+        if self.is_large(read.path, SNAPSHOT_LIMIT):
+            raise self.refuse("S19 size")
+        try:
+            held = snapshot.read(content_of(self.folder / read.path))[0]
+        except snapshot.NoSnapshot as fault:
+            raise self.refuse("S20 snapshot") from fault
+        self.resume(held)
+
+    def resume(self, held: Dict[str, Any]) -> None:
+        """Goes on with what a snapshot holds."""
+        self.reading.boards = [self.resumed(board) for board in held["boards"]]
+        self.names = {part["name"]: self.here.place for part in held["boards"] + held["hubs"]}
+        self.hubs = {hub["name"]: hub["kind"][0] for hub in held["hubs"]}
+        self.reading.time = held["time"]
+        self.selected = None
+
+    def resumed(self, held: Dict[str, Any]) -> Board:
+        machine = held["machine"][1].get("")
+        return Board(held["name"], True, has_pc=True, plan=machine["plan"] if machine else None)
+
+    def include(self, _: str, values: List[Any]) -> None:
+        if self.depth == DEPTH_LIMIT:
+            raise self.refuse("S11 depth")
+        chain = self.asking
+        read = self.note(values[0], "script", chain)
+        if not read.is_there:
+            raise Ended
+        if self.is_large(read.path):
+            raise self.refuse("S19 size")
+        self.inner(read.path, resc.numbered(self.text(read.path, chain)), chain)
+
+    def run_macro(self, _: str, values: List[Any]) -> None:
+        macro = self.macros.get(values[0])
+        if macro is None:
+            raise self.refuse("S3 variable")
+        self.inner(macro.file, macro.body, self.asking)
+
+    def quit(self, _: str, values: List[Any]) -> None:
+        raise Ended
+
+
+class PlatformWalk:
+    """Reads a platform file and all that it names by `using`."""
+
+    def __init__(self, walk: Walk, board: Board) -> None:
+        self.walk = walk
+        self.board = board
+        self.read = 1
+
+    def file(self, read: FileRead, room: int) -> None:
+        """A file that is there, of which so many may still be open within each other."""
+        text = self.walk.text(read.path, read.chain)
+        lines = resc.lines_of(text)
+        for number, path in repl.used_files(text):
+            step = Step(f"{read.path}:{number}", lines[number - 1].strip(" \t"))
+            self.used(step, path, read.chain + (step,), room)
+        self.board.processors += repl.processors(text)
+        for cpu_type in repl.cpu_types(text):
+            self.board.cpu_type = cpu_type
+
+    def used(self, step: Step, path: str, chain: Chain, room: int) -> None:
+        if room == 0 or self.read == PLATFORM_LIMIT:
+            raise self.walk.refuse("S11 depth", step.place, step.text, chain)
+        self.read += 1
+        read = self.walk.note(path, "platform", chain)
+        self.board.files.append(read)
+        if self.walk.is_large(path):
+            raise self.walk.refuse("S19 size", step.place, step.text, chain)
+        if read.is_there:
+            self.file(read, room - 1)
+
+
+DOES: Dict[str, Callable[[Walk, str, List[Any]], None]] = {
+    "* PC": Walk.pc,
+    "* IsHalted": Walk.on_board,
+    "* PerformanceInMips": Walk.speed,
+    "showAnalyzer": Walk.on_board,
+    "include": Walk.include,
+    "runMacro": Walk.run_macro,
+    "Save": Walk.save,
+    "Load": Walk.load,
+    "start": Walk.run,
+    "quit": Walk.quit,
+    "mach create": Walk.create,
+    "mach set": Walk.select,
+    "machine LoadPlatformDescription": Walk.platform,
+    "machine Reset": Walk.reset,
+    "sysbus LoadELF": Walk.image,
+    "sysbus LoadBinary": Walk.image,
+    "sysbus LoadHEX": Walk.image,
+    "sysbus ReadDoubleWord": Walk.on_board,
+    "sysbus WriteDoubleWord": Walk.on_board,
+    "emulation RunFor": Walk.run,
+    "emulation CreateUARTHub": Walk.hub,
+    "emulation CreateCANHub": Walk.hub,
+    "connector Connect": Walk.connect,
+}
+
+
+def follow(
+    script: Union[str, pathlib.Path], folder: pathlib.Path, until: int = DEFAULT_UNTIL, watched: str = ""
+) -> Reading:
+    """All that a script reads, where lab is started in this folder, and `start` runs to a lab time in microseconds. The
+    reading has a scene for each time that the line at a place FILE:LINE is taken, if one is watched."""
+    walk = Walk(folder, until, watched)
+    try:
+        walk.script(os.fspath(script))
+    except Ended:
+        pass
+    except RefusedAt as refused:
+        walk.reading.refusal = refused.refusal
+    return walk.reading
+
+
+def files_read(script: Union[str, pathlib.Path], folder: pathlib.Path) -> List[FileRead]:
+    """The files that a script reads, in order, itself first, where lab is started in this folder. The files of `Save`
+    are not among them, and those of `Load` are."""
+    return follow(script, folder).files

@@ -1,0 +1,1 @@
+"""Suites: tests that are scripts with logs."""

@@ -1,0 +1,1 @@
+"""Tests of labtools, of labdev, and of lab from outside."""

@@ -1,0 +1,371 @@
+"""Tries that what docs/ names stands in the sources: the contracts of docs/PROMISES.md, the wrong bodies of the page on
+tests, the files and crates of docs/ARCHITECTURE.md, the lemmas that are cited above their crate, and quoted lines. That
+a number which stands in several crates is one number. And that lines of the crates have at most 120 columns.
+
+    python/tests/test_documents.py        all of it
+    python/tests/test_documents.py NAME   the tests of that class, or that one, as unittest names them
+
+It reads texts alone and needs no program. It ends with 0, or with 1 where something is named that is not there.
+"""
+import collections
+import itertools
+import pathlib
+import re
+import subprocess
+import unittest
+from typing import Dict, Iterator, List, Set, Tuple
+
+from labtools.common.program import TOP
+from labdev.contracts import Crate, clauses_of, crates_below, named
+from labtools.common.manual import rows_after
+
+
+CRATES: Dict[str, Crate] = crates_below(TOP)
+NAME = re.compile(r"`((?:\w+::)?\w+)`")
+TESTING = "docs/TESTING.md"
+GUIDE = "docs/DEVELOPING.md"
+MEASURED = "docs/MEASURED.md"
+# What gives no answer, and nothing is promised of it.
+NO_ANSWER = {"Gate::enter"}
+
+
+def text_of(path: str) -> str:
+    return (TOP / path).read_text(encoding="utf-8")
+
+
+def names_in(cell: str) -> List[str]:
+    """Returns what stands between backquotes and is formed as a name, in order."""
+    return NAME.findall(cell)
+
+
+def is_defined(name: str) -> bool:
+    return any(name in crate.types or name in crate.definitions for crate in CRATES.values())
+
+
+def is_type(name: str) -> bool:
+    return name[0].isupper() and is_defined(name)
+
+
+def filled(rows: List[List[str]]) -> Iterator[List[str]]:
+    """Yields the rows of a table, with the first cell of the row before where it is empty."""
+    first = ""
+    for row in rows:
+        first = row[0] or first
+        yield [first, *row[1:]]
+
+
+def wrong_contracts(crate: str, cell: str) -> List[str]:
+    """Returns the names of a cell that are no function of the crate or of one that the cell names, no type, and no
+    clause of a function before them."""
+    wrong, clauses = [], set()
+    crates = {crate, *names_in(cell)} & set(CRATES)
+    for name in names_in(cell):
+        functions = [it for it in named(CRATES, name) if it.crate in crates]
+        if name in clauses or name in CRATES or is_type(name):
+            continue
+        clauses |= clauses_of(CRATES, functions)
+        wrong += [] if functions else [name]
+    return wrong
+
+
+class Names(unittest.TestCase):
+    def test_reads_functions_with_their_owners_and_clauses(self) -> None:
+        put = named(CRATES, "DiskStore::put")
+        self.assertEqual([(it.crate, sorted(it.owners)) for it in put], [("lab_io", ["DiskStore", "Store"])])
+        self.assertTrue({"counted", "failed", "kept"} <= clauses_of(CRATES, put))
+        self.assertNotIn("fails", clauses_of(CRATES, put))
+        self.assertEqual([it.crate for it in named(CRATES, "lab_encoding::load")], ["lab_encoding"])
+
+    def test_finds_what_is_not_there(self) -> None:
+        cell = "`run_lab`, `complete`, `sideways`, `Lab::fly`"
+        self.assertEqual(wrong_contracts("lab_top", cell), ["sideways", "Lab::fly"])
+        self.assertEqual(wrong_contracts("lab_top", "`complete`, `run_lab`"), ["complete"])
+        self.assertEqual(wrong_contracts("lab_cli", "`exit_code`"), ["exit_code"])
+        self.assertEqual(wrong_contracts("lab_cli", "`exit_code` of `lab_top`"), [])
+
+
+class Promises(unittest.TestCase):
+    document = text_of("docs/PROMISES.md")
+
+    def test_each_contract_of_a_crate_is_there(self) -> None:
+        rows = list(filled(rows_after(self.document, "| Crate | Promise, in plain words | Contract |")))
+        self.assertGreater(len(rows), 100)
+        for crate, _, contract in rows:
+            with self.subTest(crate=crate, contract=contract):
+                self.assertTrue(names_in(contract))
+                self.assertEqual(wrong_contracts(crate.strip("`"), contract), [])
+
+    def test_each_clause_of_the_program_is_there(self) -> None:
+        clauses = clauses_of(CRATES, named(CRATES, "run_lab"))
+        rows = rows_after(self.document, "| Clause of `run_lab` | Says |")
+        told = {name for row in rows for name in names_in(row[0])}
+        self.assertEqual(told, clauses)
+
+    def test_each_refusal_is_a_clause_of_its_call(self) -> None:
+        rows = list(filled(rows_after(self.document, "| Call | Answer | Comes | Clause |")))
+        self.assertGreater(len(rows), 90)
+        for call, answer, _, clause in rows[:-1]:
+            with self.subTest(call=call, answer=answer):
+                functions = [it for name in names_in(call) for it in named(CRATES, name)]
+                self.assertTrue(all(named(CRATES, name) for name in names_in(call)))
+                self.assertEqual(set(names_in(clause)) - clauses_of(CRATES, functions), set())
+
+    def test_each_name_of_the_prose_is_there(self) -> None:
+        clauses = {clause for crate in CRATES.values() for it in crate.functions for clause in it.clauses}
+        for name in re.findall(r"`((?:[A-Z]\w*::)?[a-z0-9]\w*_\w+)`", self.document):
+            with self.subTest(name=name):
+                kit = name in ("atomic_table", "crossbeam_queue")
+                there = kit or name in CRATES or name in clauses or is_defined(name) or named(CRATES, name)
+                self.assertTrue(there, name)
+
+    def test_each_crate_of_the_program_has_a_row(self) -> None:
+        rows = rows_after(self.document, "| Crate | Promise, in plain words | Contract |")
+        told = {name for row in rows for name in names_in(row[0])}
+        tests = {name for name in CRATES if name.endswith("_tests")}
+        self.assertEqual(told, set(CRATES) - tests - {"sample_boards", "lab_speed"})
+
+
+class WrongBodies(unittest.TestCase):
+    rows = rows_after(text_of(TESTING), "| Body | Refused in | By |")
+
+    def test_each_edit_is_there(self) -> None:
+        self.assertGreater(len(self.rows), 60)
+        for body, where, means in self.rows:
+            if "no clause" in means or "no edit" in means:
+                continue
+            with self.subTest(body=body):
+                crates = names_in(where)
+                edits = names_in(means)
+                self.assertTrue(crates and edits)
+                self.assertEqual([it for it in edits if not any(it in CRATES[crate].edits for crate in crates)], [])
+                self.assertEqual([it for it in crates if not CRATES[it].edits & set(edits)], [])
+
+    def test_each_test_is_there(self) -> None:
+        tests = paths = 0
+        for body, where, means in self.rows:
+            for test, crate in re.findall(r"`(\w+)`(?: \(|, `\w+` \()`(\w+_tests)`", means):
+                tests += 1
+                with self.subTest(body=body, test=test):
+                    self.assertIn(test, {it.name for it in CRATES[crate].functions})
+            for path in re.findall(r"`(tools/[\w/]+)`", means):
+                paths += 1
+                self.assertTrue((TOP / path).exists(), path)
+        self.assertGreater(tests, 5)
+        self.assertGreater(paths, 0)
+
+    def test_what_no_clause_refuses_is_shown_by_something(self) -> None:
+        tests = {it.name for name, crate in CRATES.items() if name.endswith("_tests") for it in crate.functions}
+        edits = {edit for crate in CRATES.values() for edit in crate.edits}
+        found = 0
+        for body, where, means in self.rows:
+            if "no clause" in means:
+                with self.subTest(body=body):
+                    for name in re.findall(r"`([a-z]\w*_\w*_\w+)`", means):
+                        found += 1
+                        self.assertIn(name, tests | edits)
+        self.assertGreater(found, 5)
+
+
+class Laws(unittest.TestCase):
+    rows = rows_after(text_of(TESTING), "| Law | What its premises say | Where it is so |")
+
+    def test_each_law_of_the_crates_of_laws_that_has_a_premise_is_there(self) -> None:
+        laws = {name for row in self.rows for name in names_in(row[0])}
+        stated = {it.name for name in CRATES if name.endswith("_laws") for it in CRATES[name].functions}
+        # These two hold of every run.
+        self.assertEqual(stated - laws, {"places_rise", "saves_are_kept"})
+        self.assertEqual([it for it in laws if not named(CRATES, it)], [])
+
+    def test_each_case_is_there(self) -> None:
+        paths = [path for row in self.rows for path in re.findall(r"`(cases/\w+\.case)`", row[2])]
+        self.assertGreater(len(paths), 6)
+        self.assertEqual([it for it in paths if not (TOP / it).is_file()], [])
+
+
+class Unstated(unittest.TestCase):
+    def test_functions_without_a_clause_are_those_of_the_table(self) -> None:
+        rows = rows_after(text_of(TESTING), "| Function | In | Why |")
+        told = {(crate, name) for row in rows for crate in names_in(row[1]) for name in names_in(row[0])}
+        promising = {it for it in CRATES if not it.endswith("_tests")} - {"lab_speed", "sample_boards"}
+        found = set()
+        for function in [it for crate in promising for it in CRATES[crate].functions]:
+            name = "::".join([*function.owners, function.name])
+            if not function.is_stated and len(function.owners) < 2 and name not in NO_ANSWER:
+                found.add((function.crate, name))
+        self.assertEqual(found, told)
+
+
+def lemmas_cited_above() -> Dict[str, Set[str]]:
+    """Returns of each crate the files of its proofs that files of other crates cite."""
+    cited: Dict[str, Set[str]] = collections.defaultdict(set)
+    for path in sorted(TOP.glob("crates/*/*/**/*")):
+        own = path.relative_to(TOP).parts[1]
+        if path.suffix not in (".antt", ".rt") or "out" in path.relative_to(TOP).parts[:3]:
+            continue
+        for crate, file in re.findall(r"\b(\w+)(?:\.|::)proofs(?:\.|::)(\w+)", path.read_text(encoding="utf-8")):
+            if crate in CRATES and crate != own:
+                cited[crate].add(file)
+    return cited
+
+
+class Guide(unittest.TestCase):
+    def test_lemmas_cited_above_are_those_that_the_guide_allows(self) -> None:
+        told: Dict[str, Set[str]] = collections.defaultdict(set)
+        for crate, files in re.findall(r"`(\w+)/proofs/(\w+`(?:(?:, | and )`[A-Z]\w+`)*)", text_of(GUIDE)):
+            told[crate] |= set(re.findall(r"[A-Z]\w+", files))
+        self.assertEqual(dict(lemmas_cited_above()), dict(told))
+
+    def test_numbers_of_crates_and_edits_stand_where_they_were_measured(self) -> None:
+        numbers = re.compile(r"\b([0-9]+|[a-z]+ty(?:-[a-z]+)?) (?:crates|edits|must-fail edits)\b")
+        for path in [TOP / "README.md", *sorted(TOP.glob("docs/*.md"))]:
+            told = [it for it in numbers.findall(path.read_text(encoding="utf-8")) if it not in ("empty", "dirty")]
+            with self.subTest(document=path.name):
+                self.assertTrue(not told or path == TOP / MEASURED, told)
+
+
+def missing_files(document: str) -> List[str]:
+    """Returns the sources that a text names and that are not there; a bare name is of the folder named before it."""
+    missing, folder = [], TOP
+    for name in re.findall(r"`((?:[\w.-]+/)*\w+\.(?:rt|antt))`", document):
+        path = pathlib.Path(name)
+        if len(path.parts) > 2 and (TOP / "crates" / path.parts[0]).is_dir():
+            folder = (TOP / "crates" / path).parent
+        elif len(path.parts) > 2 and path.parts[0] == "crates":
+            folder = (TOP / path).parent
+        else:
+            folder_of = [it for it in [folder, folder.parent, *folder.parents] if (it / path).is_file()]
+            if not folder_of:
+                missing.append(name)
+            continue
+        if not (folder / path.name).is_file():
+            missing.append(name)
+    return missing
+
+
+def ranges_of(document: str) -> Dict[str, str]:
+    """Returns the addresses of each part of the first platform file of a text, whose table of types has sizes too."""
+    platform = document.split("<!-- file usual/board.repl -->\n\n")[1].split("\n\n")[0]
+    usual = dict(re.findall(r"(?m)^\| `([\w.]+)` \|.*\| (0x[0-9A-F]+); 0x[0-9A-F]+ \|$", document))
+    ranges = {}
+    for name, kind, start, rest in re.findall(r"(?m)^    (\w+): ([\w.]+) @ sysbus <?(0x\w+)(.*)$", platform):
+        size = int((re.findall(r"0x\w+", rest) or [usual.get(kind, "0")])[0], 16)
+        ranges[name] = f"0x{int(start, 16):08X}..0x{int(start, 16) + size - 1:08X}"
+    return ranges
+
+
+class Pictures(unittest.TestCase):
+    def test_the_board_is_that_of_the_example(self) -> None:
+        document = text_of("docs/PLATFORMS.md")
+        ranges = ranges_of(document)
+        self.assertEqual(sorted(ranges), ["clint", "plic", "ram", "uart"])
+        for name, addresses in ranges.items():
+            with self.subTest(part=name):
+                self.assertRegex(document, rf"(?m)^    {re.escape(addresses)} +{name}\b")
+
+    def test_the_layers_are_those_of_crates_txt(self) -> None:
+        said = subprocess.run([str(TOP / "tools/crates")], stdout=subprocess.PIPE, text=True, check=True)
+        shown = "".join(f"    {line}\n" for line in said.stdout.splitlines())
+        self.assertIn(f"\n{shown}\n", text_of("docs/ARCHITECTURE.md"))
+
+
+class Architecture(unittest.TestCase):
+    document = text_of("docs/ARCHITECTURE.md")
+
+    def test_each_file_is_there(self) -> None:
+        self.assertEqual(missing_files("`board/specs/Slot.antt`, `Stretch.antt`, `Nowhere.antt`"), ["Nowhere.antt"])
+        self.assertEqual(missing_files("`board/specs/Nowhere.antt`"), ["board/specs/Nowhere.antt"])
+        for path in ("docs/ARCHITECTURE.md", "docs/PROMISES.md"):
+            with self.subTest(document=path):
+                self.assertEqual(missing_files(text_of(path)), [])
+
+    def test_each_crate_stands_in_the_tree(self) -> None:
+        tree = self.document.split("\n## ")[1].split("<!-- run tools/crates -->")[0]
+        told = collections.Counter(re.findall(r"(?m)^    +(\w+)  ?", tree))
+        self.assertEqual({name for name, count in told.items() if name in CRATES and count == 1}, set(CRATES))
+
+
+def constant(path: str) -> int:
+    """Returns the number of `crate/src/file.rt NAME`."""
+    file, name = path.split()
+    found = re.search(rf"(?m)^(?:pub(?:\([a-z]+\))? )?const {name}: \w+ = ([0-9_]+);", text_of(f"crates/{file}"))
+    if not found:
+        raise AssertionError(f"no constant: {path}")
+    return int(found[1])
+
+
+def most_of_board(kind: str) -> int:
+    """Returns how many devices of a kind a board may have, by the arms of `Kind::most`."""
+    body = text_of("crates/dev_core/src/kind.rt").split("pub fn most(")[1].split("\n    }\n")[0]
+    found = re.search(rf"(?m)^ *(?:Kind::\w+ \| )*Kind::{kind}(?: \| Kind::\w+)* => (\d+),$", body)
+    if not found:
+        raise AssertionError(f"no arm: {kind}")
+    return int(found[1])
+
+
+class Constants(unittest.TestCase):
+    def test_what_stands_in_several_crates_is_one_number(self) -> None:
+        self.assertEqual(constant("lab_top/src/run.rt MOST_STEPS"), constant("resc_vars/src/flow.rt COMMANDS") + 1)
+        self.assertEqual(constant("plic/src/valid.rt MOST"), constant("plic/src/plic.rt LEVEL"))
+
+    def test_there_are_devices_and_grants_for_each_board(self) -> None:
+        boards = constant("lab_num/src/number.rt MOST_BOARDS")
+        self.assertEqual(constant("time_source/src/source.rt MEMBERS"), boards)
+        for kind in "Uart", "Can", "Finisher":
+            stock = constant(f"dev_core/src/stock.rt STOCK_{kind.upper()}S")
+            self.assertEqual(stock, boards * most_of_board(kind))
+
+
+class Sources(unittest.TestCase):
+    def test_lines_have_120_columns_but_where_one_name_is_longer(self) -> None:
+        one_name = re.compile(r" *use [^ ,]+")
+        files = [it for folder in ("src", "specs", "proofs") for it in TOP.glob(f"crates/*/{folder}/**/*")]
+        for path in sorted(it for it in files if it.suffix in (".antt", ".rt")):
+            for number, line in enumerate(path.read_text(encoding="utf-8").splitlines(), 1):
+                if len(line) > 120 and not one_name.fullmatch(line):
+                    self.fail(f"{path.relative_to(TOP)}:{number} has {len(line)} columns")
+
+
+def links_in(text: str) -> Iterator[Tuple[str, str]]:
+    """Yields the documents that a text names, each with the section in quotes that it names with it, or nothing."""
+    plain = " ".join(text.split())
+    for path, first, second in re.findall(r'(docs/[A-Z_]+\.md)(?: \("([^"]+)"|, "([^"]+)")?', plain):
+        yield path, first or second
+    for first, path in re.findall(r'"([^"]{3,60})" in (docs/[A-Z_]+\.md)', plain):
+        yield path, first
+
+
+class Links(unittest.TestCase):
+    def test_each_document_and_section_that_is_named_is_there(self) -> None:
+        self.assertEqual(list(links_in('docs/A.md ("B c") and\ndocs/D.md')), [("docs/A.md", "B c"), ("docs/D.md", "")])
+        for page in [TOP / "README.md", *sorted(TOP.glob("docs/*.md")), *sorted(TOP.glob("demo/*/*.md"))]:
+            for path, section in links_in(page.read_text(encoding="utf-8")):
+                with self.subTest(page=page.name, path=path, section=section):
+                    self.assertTrue((TOP / path).is_file())
+                    headings = re.findall(r"(?m)^#+ (.*)$|^\*\*([^*]+)\*\*", text_of(path))
+                    plain = [re.sub(r"[`.]", "", first or second) for first, second in headings]
+                    self.assertTrue(not section or re.sub(r"[`.]", "", section) in plain, plain)
+
+
+def quotes_of(document: str) -> Iterator[Tuple[str, str, str]]:
+    """Yields of each indented block the file in the comment before it, or nothing, the text above it, and the block."""
+    lines = document.split("\n")
+    for place, line in enumerate(lines):
+        if line.startswith("    ") and not (place and lines[place - 1]):
+            above = lines[:place]
+            mark = re.fullmatch(r"<!-- lines of (\S+) -->", "".join(above[-2:]))
+            rest = itertools.takewhile(lambda it: it.startswith("    ") or not it, lines[place:])
+            block = "\n".join(it[4:] for it in rest).strip("\n")
+            if not lines[place - 2].startswith("    "):
+                yield mark[1] if mark else "", "\n".join(above[:-2]), block
+
+
+class Proof(unittest.TestCase):
+    def test_each_quoted_line_stands_in_the_file_that_is_named_above_it(self) -> None:
+        quotes = list(quotes_of(text_of("docs/A_PROOF.md")))
+        self.assertGreater(len(quotes), 8)
+        for path, above, block in quotes:
+            if block.startswith("rt: must-fail"):
+                continue
+            with self.subTest(block=block):
+                self.assertIn(f"`{path}`", above)
+                self.assertIn(f"\n{block}\n", f"\n{text_of(path)}")

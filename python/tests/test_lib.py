@@ -1,0 +1,266 @@
+"""Tries functions of tools/lib at their limits: which variants and flags a snapshot may have, how paths and names of an
+ELF file are shown, when a processor is said to be in a trap loop, and what the files and runs of a case are. It ends
+with 0, or with 1 where something is wrong.
+"""
+import os
+import tempfile
+import unittest
+from typing import Any, Dict, List, Optional, Tuple
+
+from labdev import cases
+from labtools.boards import machine
+from labtools.boards import snapshot
+from labtools.boards import stacks
+from labtools.boards import traps
+from labtools.elf import elf_binutils
+from labtools.elf import elf_parts
+from labtools.elf import unwind
+
+
+HANDLER = 0x80000100
+
+
+class Snapshots(unittest.TestCase):
+    def test_a_variant_is_one_of_its_cases(self) -> None:
+        cases = ("none", []), ("there", [])
+        for byte, name in ((0, "none"), (1, "there")):
+            self.assertEqual(snapshot.Reader(bytes([byte])).variant(*cases)("it"), (name, {}))
+        for byte in 2, 255:
+            with self.assertRaises(snapshot.NoSnapshot) as refused:
+                snapshot.Reader(bytes([byte])).variant(*cases)("it")
+            self.assertEqual(str(refused.exception), f"it: there is no variant {byte} at 0")
+
+    def test_a_flag_is_0_or_1(self) -> None:
+        self.assertEqual([snapshot.Reader(bytes([byte])).flag("it") for byte in (0, 1)], [False, True])
+        with self.assertRaises(snapshot.NoSnapshot):
+            snapshot.Reader(b"\2").flag("it")
+
+
+Part = Tuple[str, Dict[str, Any]]
+NONE: Part = ("none", {})
+
+
+def there(value: object) -> Part:
+    return "there", {"": value}
+
+
+def numbered(kind: str, number: int) -> Part:
+    return kind, {"number": number}
+
+
+class Machines(unittest.TestCase):
+    """Boards of a processor, a memory, a UART and an interrupt controller without a timer."""
+
+    def told(self, **changed: Any) -> str:
+        """Returns what is wrong with a board whose plan or state is changed so, once its pins are asked for."""
+        plan = {
+            "names": [{"name": "plic", "what": ("part", {"": ("controller", {})})}],
+            "regions": [{"base": 0, "size": 4096, "what": numbered("memory", 0)}],
+            "frequency": NONE,
+            "controller": there({"sources": 31, "contexts": 1}),
+            "wires": [],
+            "processors": ["cpu"],
+        }
+        state = {
+            "processors": [{"x": [0] * 32, "pc": 0}],
+            "reservations": [NONE],
+            "timer": NONE,
+            "controller": there(
+                {"pending": 0, "shut": 0, "enables": [2] * 15, "thresholds": [0] * 15, "priorities": [1] * 128}
+            ),
+            "devices": [("finisher", {})],
+        }
+        for part in plan, state:
+            part.update({name: value for name, value in changed.items() if name in part})
+        try:
+            board = machine.machine_of(
+                {"name": "m", "machine": there({"plan": plan, "state": state, "memories": [[]]})}, 0
+            )
+            assert board
+            return str([board.pending(hart) for hart in board.harts])
+        except snapshot.NoSnapshot as fault:
+            return str(fault)
+
+    def wired(self, begin: Part, end: Part) -> str:
+        return self.told(wires=[{"from": begin, "to": end}])
+
+    def test_each_part_that_is_named_is_there(self) -> None:
+        pin, source = ("processor", {"number": 0, "pin": 11}), numbered("source", 1)
+        self.assertEqual(self.told(), "[set()]")
+        self.assertEqual(self.wired(numbered("context", 14), pin), "[set()]")
+        for told, wanted in (
+            (self.wired(numbered("device", 1), source), "a wire is of a device that is not there"),
+            (self.wired(("timer", {}), pin), "a wire is of a timer that is not there"),
+            (self.wired(("software", {}), pin), "a wire is of a software that is not there"),
+            (self.wired(numbered("context", 15), pin), "a wire is of a context that is not there"),
+            (self.wired(numbered("device", 0), numbered("source", 128)), "a wire is of a source that is not there"),
+            (self.wired(numbered("context", 0), source), "a wire leads from the interrupt controller to itself"),
+            (
+                self.told(regions=[{"base": 4096, "size": 4096, "what": numbered("memory", 1)}]),
+                "the region at 0x00001000 is of a memory that is not there",
+            ),
+            (self.told(controller=NONE), "the name plic is of a controller that is not there"),
+            (self.told(reservations=[]), "0 reservations are not one for each of 1 processors"),
+            (self.told(names=[]), "the interrupt controller has no name"),
+        ):
+            self.assertEqual(told, f"board m: {wanted}")
+
+
+class Images(unittest.TestCase):
+    def test_marks_of_the_assembler_are_no_functions(self) -> None:
+        names = "main", "_start", "a.part.0", "", "$x", "$d", ".L4"
+        self.assertEqual([name for name in names if elf_parts.is_code_name(name)], ["main", "_start", "a.part.0"])
+
+    def test_a_path_is_shown_from_this_folder_on_where_it_lies_in_it(self) -> None:
+        before = os.getcwd()
+        self.addCleanup(os.chdir, before)
+        with tempfile.TemporaryDirectory(prefix="lab-lib-") as folder:
+            os.chdir(folder)
+            here = os.getcwd()
+            shown = {
+                f"{here}/src/./main.c": "src/main.c",
+                f"{here}/main.c": "main.c",
+                "/none/main.c": "/none/main.c",
+                "src/./main.c": "src/main.c",
+                "../main.c": "../main.c",
+            }
+            for path, wanted in shown.items():
+                self.assertEqual(elf_parts.short(path), wanted)
+            os.chdir(before)
+
+
+class Tables(unittest.TestCase):
+    """What `readelf --debug-dump=frames-interp` prints of a function."""
+
+    def test_rows_are_addresses(self) -> None:
+        told = [
+            "   LOC   CFA      ra",
+            "80000000 sp+0     u",
+            "  DW_CFA_expression: r9 (x)",
+            "80000004 sp+16    c-4",
+            "80000008 ft0+16   c-4",
+        ]
+        rows = [
+            elf_parts.Row(0x80000000, ("sp", 0), {}),
+            elf_parts.Row(0x80000004, ("sp", 16), {"ra": -4}),
+            elf_parts.Row(0x80000008, None, {"ra": -4}),
+        ]
+        self.assertEqual(list(elf_binutils.read_rows(told)), rows)
+
+
+class Traps(unittest.TestCase):
+    def loop(self, pc: int = HANDLER, **state: int) -> Optional[traps.TrapLoop]:
+        """What is said of a processor without a file that names functions."""
+        held = dict(mtvec=HANDLER, mcause=0, mtval=0, mepc=HANDLER, mie=0, mcycle=9, minstret=2, halted=0, waiting=0)
+        hart = machine.Hart("cpu", 0, [0] * 32, pc, {**held, **state})
+        stack = unwind.Stack(hart, machine.Memory([]), unwind.Code([]))
+        return traps.loop_of(hart, stack, stack.frames())
+
+    def warns(self, **state: int) -> bool:
+        return self.loop(**state) is not None
+
+    def test_a_processor_traps_again_and_again_at_its_handler(self) -> None:
+        self.assertTrue(self.warns(mcause=2))
+        self.assertTrue(self.warns(mtval=4))
+        self.assertTrue(self.warns())
+
+    def test_it_does_not_after_an_interrupt_or_elsewhere(self) -> None:
+        self.assertFalse(self.warns(mcause=0x80000007))
+        self.assertFalse(self.warns(mcause=2, pc=HANDLER + 4))
+        self.assertFalse(self.warns(mcause=2, mepc=HANDLER + 4))
+
+    def test_it_does_not_while_it_waits_or_is_halted(self) -> None:
+        self.assertFalse(self.warns(mcause=2, waiting=1))
+        self.assertFalse(self.warns(mcause=2, halted=1))
+
+    def test_entries_are_the_slots_in_which_no_instruction_retired(self) -> None:
+        loop = self.loop(mcause=2)
+        self.assertEqual(loop, traps.TrapLoop(7, False, 2, HANDLER, True))
+        assert loop
+        self.assertIn("a trap loop: 7 entries of cause 2 at 0x80000100, where the handler begins", traps.text_of(loop))
+
+    def test_slots_in_which_it_may_have_waited_are_told_as_such(self) -> None:
+        loop = self.loop(mcause=2, mie=0x80)
+        assert loop
+        self.assertIn("a trap loop: at most 7 entries of cause 2", traps.text_of(loop))
+
+
+class Stacks(unittest.TestCase):
+    def shared(self, *stacks_: Tuple[int, int]) -> int:
+        """How many pairs are told of the processors with these stacks, from the stack pointer to the top."""
+        return len(stacks.shared([stacks.Extent(f"cpu{n}", low, top) for n, (low, top) in enumerate(stacks_)]))
+
+    def test_a_stack_is_one_where_it_begins_at_one_place_or_frames_lie_among_frames(self) -> None:
+        self.assertEqual(self.shared((0x8FE0, 0x9000), (0x9000, 0x9000)), 1)
+        self.assertEqual(self.shared((0x8FE0, 0x9000), (0x8FF0, 0x8FF0)), 1)
+        self.assertEqual(self.shared((0x8FE0, 0x8FE0), (0x8FE0, 0x8FE0)), 1)
+        self.assertEqual(self.shared((0x8FE0, 0x9000), (0x8FD0, 0x9000), (0x8FC0, 0x9000)), 3)
+
+    def test_stacks_below_one_another_are_not_one(self) -> None:
+        self.assertEqual(self.shared((0x8F00, 0x9000), (0x7FE0, 0x8000), (0x7000, 0x7000)), 0)
+
+
+CASE = """What it shows.
+
+-- one --
+a
+-- + one --
+b
+-- dir/two after one --
+c
+-- three x 2 --
+d
+-- four in escapes --
+\\x41\\n
+B
+-- five in words --
+64636261 # a note
+-- six as five --
+2: 00007A79
+length: 5
+-- lab run --workers 2 x.resc = 3 with five of 0 to 3 bytes --
+-- each six after one: lab run x.resc, snapshot kept time --
+e
+=> time 1
+f
+g
+=> time 2
+=> time 3
+-- each refused S2 arguments --
+h
+-- snapshot five time --
+-- lab check x.resc --
+"""
+FILES = {
+    "one": b"a\nb\n",
+    "dir/two": b"a\nb\nc\n",
+    "three": b"d\nd\n",
+    "four": b"A\nB",
+    "five": b"abcd",
+    "six": b"abyz\0",
+}
+
+
+class Cases(unittest.TestCase):
+    def runs(self) -> List[Tuple[List[str], Dict[str, bytes]]]:
+        with tempfile.NamedTemporaryFile(mode="w") as file:
+            file.write(CASE)
+            file.flush()
+            return [(run.words, dict(run.files)) for run in cases.runs_of(file.name)]
+
+    def test_each_form_of_a_part_makes_its_file(self) -> None:
+        self.assertEqual(self.runs()[0], (["run", "--workers", "2", "x.resc"], FILES))
+
+    def test_each_row_is_a_run_over_its_own_file(self) -> None:
+        rows = self.runs()[1:3]
+        self.assertEqual([words for words, _ in rows], [["run", "x.resc"]] * 2)
+        self.assertEqual([files["six"] for _, files in rows], [b"a\nb\ne\n", b"a\nb\nf\ng\n"])
+
+    def test_a_line_is_refused_in_three_scripts(self) -> None:
+        scripts = [files["s.resc"] for _, files in self.runs()[3:6]]
+        in_macro = b'macro inner\n"""\n\n    h\n"""\nrunMacro $inner\n'
+        self.assertEqual(scripts, [b"h\nfoo\n", in_macro, b"include @i.resc\n"])
+
+    def test_a_snapshot_is_gone_behind_its_look(self) -> None:
+        words, files = self.runs()[6]
+        self.assertEqual((words, "five" in files), (["check", "x.resc"], False))

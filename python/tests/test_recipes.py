@@ -1,0 +1,86 @@
+"""Tries tools/recipes on pages of a few lines: that it takes what is so, tells what is not with the line of the
+comment, and passes over what needs a program that is not installed. It needs no program: a stand-in does nothing. It
+ends with 0, or with 1 where something is wrong.
+"""
+import os
+import pathlib
+import shutil
+import subprocess
+import tempfile
+import unittest
+from typing import Tuple
+
+from labtools.common.program import TOP
+
+
+RIGHT = """# A page
+
+<!-- file a/one -->
+
+    one
+      two
+
+<!-- run cat a/one -->
+
+    one
+      two
+
+<!-- run cat a/one; exit 3 = 3 -->
+
+    one
+      two
+
+<!-- do -->
+
+    grep -q two a/one
+    test -d demo -a -x lab -a -d tools
+
+<!-- lines of VERSION -->
+
+    VERSION
+"""
+# What a page says, and what is told of it, if that ends with 1.
+WRONG = (
+    ("<!-- run echo two -->\n\n    one\n", "1: `echo two` ended with 0, and not with 0, and printed\ntwo\n\n"),
+    ("\n\n<!-- run echo one = 1 -->\n\n    one\n", "3: `echo one` ended with 0, and not with 1, and printed\none\n\n"),
+    (
+        "<!-- run echo one; exit 4 -->\n\n    one\n",
+        "1: `echo one; exit 4` ended with 4, and not with 0, and printed\none\n\n",
+    ),
+    ("<!-- do -->\n\n    echo one\n    false\n    echo two\n", "1: the commands ended with 1 and printed\none\n\n"),
+    ("<!-- lines of VERSION -->\n\n    none of these\n", "1: these lines do not stand in VERSION\n"),
+    ("<!-- run true -->\nThe block is missing.\n", "1: no block stands after the comment\n"),
+)
+
+
+class Recipes(unittest.TestCase):
+    def try_page(self, text: str) -> Tuple[int, str, str]:
+        """Returns how a run over a page ends, what it prints, and the page's name there."""
+        with tempfile.TemporaryDirectory(prefix="lab-page-") as folder:
+            page = pathlib.Path(folder).resolve() / "page.md"
+            page.write_text(text, encoding="utf-8")
+            ran = subprocess.run(
+                [str(TOP / "tools/recipes"), str(page)],
+                env={**os.environ, "LAB": str(shutil.which("true"))},
+                stdin=subprocess.DEVNULL,
+                stdout=subprocess.PIPE,
+                stderr=subprocess.STDOUT,
+                text=True,
+            )
+            return ran.returncode, ran.stdout, os.path.relpath(page, TOP)
+
+    def test_what_is_so_is_taken(self) -> None:
+        text = RIGHT.replace("    VERSION\n", f"    {(TOP / 'VERSION').read_text(encoding='utf-8')}")
+        self.assertEqual(self.try_page(text)[:2], (0, ""))
+
+    def test_what_is_not_so_is_told_with_its_line(self) -> None:
+        for text, told in WRONG:
+            with self.subTest(text=text):
+                status, printed, name = self.try_page(text)
+                self.assertEqual((status, printed), (1, f"{name}:{told}"))
+
+    def test_what_needs_an_absent_program_is_passed_over(self) -> None:
+        status, printed, name = self.try_page("<!-- run false with no-such-program -->\n\n    one\n")
+        self.assertEqual((status, printed), (0, f"passed over: 1 blocks of {name}, without no-such-program\n"))
+        self.assertEqual(self.try_page("<!-- run echo one with bash -->\n\n    one\n")[:2], (0, ""))
+        self.assertEqual(self.try_page("<!-- run false with bash -->\n\n    one\n")[0], 1)

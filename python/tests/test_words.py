@@ -1,0 +1,171 @@
+"""Tries that the scripts of tools/ tell in a line what is wrong with their words and files, or that what they print
+cannot be written, and end with the status that their heads say. The lines were written down by hand beforehand.
+
+    python/tests/test_words.py [NAME ..]
+
+It needs no program: a stand-in does nothing. It prints what is wrong alone, and ends with 0, or with 1 where something
+is.
+"""
+import os
+import pathlib
+import shutil
+import signal
+import subprocess
+import sys
+import tempfile
+import unittest
+from typing import Any
+
+from labtools.common.program import TOP
+
+
+# The words of a command, its status and its line, where no program is there. COUNT, FIRST and LANES are numbers from 1.
+WORDS = (
+    ("mangle abc", 2, "abc is no number from 1 to 999999999: tools/mangle [COUNT [SEED]]"),
+    ("mangle -1", 2, "-1 is no number from 1 to 999999999: tools/mangle [COUNT [SEED]]"),
+    ("mangle 0", 2, "0 is no number from 1 to 999999999: tools/mangle [COUNT [SEED]]"),
+    ("mangle 1000000000", 2, "1000000000 is no number from 1 to 999999999: tools/mangle [COUNT [SEED]]"),
+    ("mangle 1 2 3", 2, "these words are not taken: tools/mangle [COUNT [SEED]]"),
+    ("starve abc", 2, "abc is no number from 1 to 999999999: tools/starve [FIRST]"),
+    ("starve -1", 2, "-1 is no number from 1 to 999999999: tools/starve [FIRST]"),
+    ("starve x y", 2, "these words are not taken: tools/starve [FIRST]"),
+    ("build 99999999999999999999", 2, "99999999999999999999 is no number from 1 to 999: tools/build [LANES]"),
+    ("build 1000", 2, "1000 is no number from 1 to 999: tools/build [LANES]"),
+    ("build x", 2, "x is no number from 1 to 999: tools/build [LANES]"),
+    ("build 1 2", 2, "these words are not taken: tools/build [LANES]"),
+    ("edges x", 2, "these words are not taken: tools/edges [--limits]"),
+    ("edges --limit", 2, "these words are not taken: tools/edges [--limits]"),
+    ("edges --limits x", 2, "these words are not taken: tools/edges [--limits]"),
+    ("cuts x", 2, "these words are not taken: tools/cuts"),
+    ("costs nosuch", 2, "no name has the word nosuch: tools/costs [WORD ..]"),
+    ("costs hubs nosuch", 2, "no name has the word nosuch: tools/costs [WORD ..]"),
+    ("crates x", 2, "these words are not taken: tools/crates [--chain]"),
+    ("tests/pages_are_freed nosuch", 2, "these words are not taken: python/tests/test_pages_are_freed.py"),
+    ("recipes none.md", 2, "none.md: No such file or directory"),
+    ("recipes page.md none.md", 2, "none.md: No such file or directory"),
+    ("recipes .", 2, ".: Is a directory"),
+    ("recipes bytes.md", 2, "bytes.md: it is not UTF-8"),
+    ("edges", 2, "/none/lab is no program that can be run"),
+    ("edges --limits", 2, "/none/lab is no program that can be run"),
+    ("cuts", 2, "/none/lab is no program that can be run"),
+    ("mangle 1", 2, "/none/lab is no program that can be run"),
+    ("costs hubs", 2, "/none/lab is no program that can be run"),
+    ("starve 1", 2, "/none/lab is no program that can be run"),
+    ("recipes page.md", 2, "/none/lab is no program that can be run"),
+    ("workers gen", 2, "/none/lab is no program that can be run"),
+    ("speed gen/1", 2, "/none/lab is no program that can be run"),
+    ("workers --lab /none/x", 2, "/none/x is no program that can be run"),
+    ("speed --lab /none/x", 2, "/none/x is no program that can be run"),
+    ("workers --lab page.md", 2, "ROOM/page.md is no program that can be run"),
+    ("log --trace none.log", 1, "[Errno 2] No such file or directory: 'none.log'"),
+)
+# The words of a command that prints something, and its status where that cannot be written.
+PRINTING = (
+    ("where kept", 1),
+    ("where --json kept", 1),
+    ("reads s.resc", 1),
+    ("reads --json s.resc", 1),
+    ("snapshot kept", 1),
+    ("crates", 1),
+    ("crates --chain", 1),
+    ("speed --list", 1),
+    ("workers --list", 1),
+    ("log --trace a.log", 1),
+    ("log --help", 1),
+    ("build --help", 1),
+    ("cuts --help", 1),
+    ("recipes --help", 1),
+    ("explain --help", 1),
+    ("package --help", 1),
+    ("suite --help", 2),
+)
+FULL = "[Errno 28] No space left on device"
+CLOSED = "[Errno 9] Bad file descriptor"
+# A laboratory without boards, at its beginning, whose quantum is 100 microseconds (docs/SNAPSHOTS.md).
+KEPT = b"LABSNAP1" + bytes(8) + (100).to_bytes(8, "little") + bytes(4 * 8)
+COMMENT = "# A page\n\n<!-- do -->\nNo block is here.\n"
+
+
+class Words(unittest.TestCase):
+    def setUp(self) -> None:
+        folder = tempfile.TemporaryDirectory(prefix="lab-words-")
+        self.addCleanup(folder.cleanup)
+        self.room = pathlib.Path(folder.name).resolve()
+        held = {"kept": KEPT, "s.resc": b"", "a.log": b"[0.000001] m/u: one\n", "bytes.md": b"\xff\n", "page.md": b""}
+        for name, data in {**held, "comment.md": COMMENT.encode()}.items():
+            (self.room / name).write_bytes(data)
+        # So that no script begins anything, whatever it makes of its words.
+        (self.room / "bin").mkdir()
+        for name in "rt", "valgrind", "lab":
+            (self.room / "bin" / name).symlink_to(str(shutil.which("false")))
+
+    def call(self, words: str, lab: str = "/none/lab", buffered: bool = True, **how: Any) -> "subprocess.Popen[str]":
+        script, *rest = words.split()
+        path = f"{self.room}/bin:{os.environ['PATH']}"
+        env = {**os.environ, "LAB": lab, "PATH": path, "LC_ALL": "C", "PYTHONUNBUFFERED": "" if buffered else "1"}
+        with subprocess.Popen(
+            [sys.executable, str(TOP / "tools" / script), *rest],
+            cwd=self.room,
+            env=env,
+            text=True,
+            stdin=subprocess.DEVNULL,
+            stderr=subprocess.PIPE,
+            **{"stdout": subprocess.PIPE, **how},
+        ) as process:
+            self.printed, self.told = process.communicate(timeout=60)
+        return process
+
+    def test_a_line_says_what_is_wrong(self) -> None:
+        for words, status, line in WORDS:
+            with self.subTest(words=words):
+                ended = self.call(words).returncode
+                wanted = f"tools/{words.split()[0]}: {line}\n".replace("ROOM", str(self.room))
+                self.assertEqual((ended, self.printed, self.told), (status, "", wanted))
+
+    def test_a_comment_without_a_block_is_told_with_its_line(self) -> None:
+        ended = self.call("recipes comment.md", str(self.room / "bin/lab")).returncode
+        line = f"{os.path.relpath(self.room / 'comment.md', TOP)}:3: no block stands after the comment\n"
+        self.assertEqual((ended, self.printed, self.told), (1, line, ""))
+
+    def test_an_output_that_is_full_is_told(self) -> None:
+        for words, status in PRINTING:
+            for buffered in True, False:
+                with self.subTest(words=words, buffered=buffered), open("/dev/full", "wb") as full:
+                    ended = self.call(words, buffered=buffered, stdout=full).returncode
+                    self.assertEqual((ended, self.told), (status, f"tools/{words.split()[0]}: {FULL}\n"))
+
+    def test_a_suite_tells_that_its_results_cannot_be_written(self) -> None:
+        lab = str(self.room / "bin/lab")
+        (self.room / "s.log").write_bytes(b"one\n")
+        for buffered in True, False:
+            with self.subTest(buffered=buffered), open("/dev/full", "wb") as full:
+                ended = self.call("suite s.resc", lab, buffered, stdout=full).returncode
+                self.assertEqual((ended, self.told), (2, f"suite: {FULL}\n"))
+        ended = self.call("suite s.resc", lab, stdout=None, preexec_fn=lambda: os.close(1)).returncode
+        self.assertEqual((ended, self.told), (2, f"suite: {CLOSED}\n"))
+
+    def test_an_output_that_is_closed_is_told(self) -> None:
+        for words, status in PRINTING:
+            with self.subTest(words=words):
+                ended = self.call(words, stdout=None, preexec_fn=lambda: os.close(1)).returncode
+                self.assertEqual((ended, self.told), (status, f"tools/{words.split()[0]}: {CLOSED}\n"))
+
+    def test_the_names_of_the_tests_are_printed_as_far_as_someone_reads(self) -> None:
+        command = [sys.executable, str(TOP / "test"), "--list"]
+        reader, writer = os.pipe()
+        os.close(reader)
+        ran = subprocess.run(command, stdout=writer, stderr=subprocess.PIPE, text=True, timeout=60, check=False)
+        os.close(writer)
+        self.assertEqual((ran.returncode, ran.stderr), (-signal.SIGPIPE, ""))
+        with open("/dev/full", "wb") as full:
+            ran = subprocess.run(command, stdout=full, stderr=subprocess.PIPE, text=True, timeout=60, check=False)
+        self.assertEqual((ran.returncode, ran.stderr), (1, f"test: {FULL}\n"))
+
+    def test_it_ends_in_silence_where_nobody_reads_on(self) -> None:
+        for words, _ in PRINTING:
+            reader, writer = os.pipe()
+            os.close(reader)
+            with self.subTest(words=words):
+                ended = self.call(words, stdout=writer).returncode
+                self.assertEqual((ended, self.told), (-signal.SIGPIPE, ""))
+            os.close(writer)
