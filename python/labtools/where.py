@@ -18,8 +18,7 @@ It ends with 0, with 1 where the script or the snapshot cannot be taken so far o
 import argparse
 import dataclasses
 import json
-import sys
-from typing import Dict, List, Optional, Sequence, Tuple
+from typing import Dict, List, Optional, Tuple
 
 from labtools.boards import kept_labs
 from labtools.boards import run_until
@@ -28,7 +27,7 @@ from labtools.boards import where
 from labtools.boards import where_text
 from labtools.common import rooms
 from labtools.common.escapes import shown
-from labtools.common.program import answer_help, as_called, end_with, end_wrong, name_of_script
+from labtools.common.program import end_wrong, parser_of
 from labtools.scripts import resc
 
 
@@ -46,13 +45,8 @@ def image_of(word: str) -> Tuple[str, str]:
     return board, path
 
 
-def asked(words: Optional[Sequence[str]]) -> argparse.Namespace:
-    parser = argparse.ArgumentParser(
-        prog=name_of_script(),
-        usage=as_called(USAGE),
-        description=as_called(__doc__),
-        formatter_class=argparse.RawDescriptionHelpFormatter,
-    )
+def asked(words: List[str]) -> argparse.Namespace:
+    parser = parser_of(__doc__)
     parser.add_argument("--at", type=time_of)
     parser.add_argument("--until", type=time_of, default=1_000_000)
     parser.add_argument("--json", action="store_true")
@@ -88,12 +82,7 @@ def main(words: List[str]) -> None:
         end_wrong(shown(f"{given.file}: {fault}"), 1)
     except snapshot.NoSnapshot as fault:
         end_wrong(shown(f"{given.file}: no snapshot of lab: {fault}"), 1)
-    except KeyboardInterrupt:
-        sys.exit(130)
     if given.json:
         print(json.dumps(dataclasses.asdict(report), indent=1))
     else:
         print("\n".join(map(shown, where_text.lines_of(report))))
-
-
-USAGE = "tools/where [--at TIME] [--until TIME] [--json] SCRIPT or SNAPSHOT [BOARD=ELF ..]"
