@@ -1,5 +1,5 @@
 """Tries functions of labtools and labdev at their limits: which variants and flags a snapshot may have, how paths and
-names of an ELF file are shown, when a processor is said to be in a trap loop, and what the files and runs of a case are.
+names of an ELF file are shown, when a processor is said to be in a trap loop, and what the files of a case are.
 """
 import os
 import tempfile
@@ -21,7 +21,7 @@ HANDLER = 0x80000100
 
 class Snapshots(unittest.TestCase):
     def test_a_variant_is_one_of_its_cases(self) -> None:
-        cases = ("none", []), ("there", [])
+        cases: List[Tuple[str, snapshot.Fields]] = [("none", []), ("there", [])]
         for byte, name in ((0, "none"), (1, "there")):
             self.assertEqual(snapshot.Reader(bytes([byte])).variant(*cases)("it"), (name, {}))
         for byte in 2, 255:
@@ -134,13 +134,14 @@ class Tables(unittest.TestCase):
     def test_only_sums_of_a_register_and_offsets_of_registers_are_taken(self) -> None:
         saved = types.SimpleNamespace(type="OFFSET", arg=-4)
         other = types.SimpleNamespace(type="EXPRESSION", arg=[0x70])
-        for base, rules, wanted in (
+        rows: List[Tuple[Tuple[Any, Any, Any], Dict[Any, Any], elf.Row]] = [
             ((2, 0, None), {}, elf.Row(0x80000000, (2, 0), {})),
             ((2, 16, None), {1: saved, 8: other}, elf.Row(0x80000000, (2, 16), {1: -4})),
             ((32, 16, None), {1: saved, 33: saved}, elf.Row(0x80000000, None, {1: -4})),
             ((None, None, [0x72]), {}, elf.Row(0x80000000, None, {})),
-        ):
-            cfa = types.SimpleNamespace(reg=base[0], offset=base[1], expr=base[2])
+        ]
+        for (register, offset, expression), rules, wanted in rows:
+            cfa = types.SimpleNamespace(reg=register, offset=offset, expr=expression)
             self.assertEqual(elf.row_of({"pc": 0x80000000, "cfa": cfa, **rules}), wanted)
 
 

@@ -247,8 +247,8 @@ class Traps(InRoom):
 
     def test_a_loop_is_told_wherever_in_it_the_processor_is(self) -> None:
         """`within` has turns of three slots and `called` of five, so all places come before one of these times."""
-        for time in range(95, 100):
-            text = self.where("loops.resc", "--at", f"0.{time:06}")
+        for micros in range(95, 100):
+            text = self.where("loops.resc", "--at", f"0.{micros:06}")
             self.assertEqual(text.count("a trap loop"), 3, text)
 
     def test_a_trap_that_is_handled_is_no_loop(self) -> None:
@@ -391,8 +391,8 @@ class Faults(InRoom):
         self.assertIn("tools/where: cut: no snapshot of lab: ends within a value", self.refused("cut"))
 
     def test_words_that_are_wrong(self) -> None:
-        for words in ["ask.resc", "asker"], ["ask.resc", "--at", "soon"], []:
-            self.assertEqual(self.run_tool("where", *words)[0], 2)
+        for wrong in "ask.resc asker", "ask.resc --at soon", "":
+            self.assertEqual(self.run_tool("where", *wrong.split())[0], 2)
         status, text, _ = self.run_tool("where", "--help")
         self.assertEqual(status, 0)
         self.assertIn("tools/where [--at TIME]", text)
@@ -676,8 +676,8 @@ class Ended(unittest.TestCase):
         named = {"LAB": str(self.folder / "lab"), "TMPDIR": str(self.room), "PROCESS": str(self.folder / "process")}
         words = [sys.executable, "-c", HEED, sys.executable, str(TOP / "tools/where"), "s.resc"]
         (self.folder / "process").write_text("", encoding="utf-8")
-        how = {"cwd": self.folder, "env": {**os.environ, **named}, "stderr": subprocess.DEVNULL}
-        with subprocess.Popen(words, **how) as process:
+        env = {**os.environ, **named}
+        with subprocess.Popen(words, cwd=self.folder, env=env, stderr=subprocess.DEVNULL) as process:
             try:
                 self.wait_for(lambda: self.process() > 0)
                 self.assertEqual([it.name[:10] for it in self.room.iterdir()], ["lab-where-"])
