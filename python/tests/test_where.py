@@ -639,6 +639,8 @@ os.execv(sys.argv[1], sys.argv[1:])
 
 
 class Ended(unittest.TestCase):
+    """What is left of tools that run lab, which is nothing."""
+
     def setUp(self) -> None:
         folder = tempfile.TemporaryDirectory(prefix="lab-tests-where-")
         self.addCleanup(folder.cleanup)
@@ -668,22 +670,27 @@ class Ended(unittest.TestCase):
 
     def test_its_folder_and_its_run_go_with_it_however_it_ends(self) -> None:
         for number in signal.SIGTERM, signal.SIGHUP, signal.SIGINT, signal.SIGKILL:
-            with self.subTest(number=number):
-                self.end_by(number)
+            for tool, words in ("where", "s.resc"), ("expect", "s.resc s.log"), ("expect", "--bless s.resc s.log"):
+                with self.subTest(number=number, tool=tool, words=words):
+                    status, told = self.end_by(number, tool, words.split())
+                    wanted = (130, f"tools/{tool}: it was interrupted\n") if number == signal.SIGINT else (-number, "")
+                    self.assertEqual((status, told), wanted)
+        self.assertFalse((self.folder / "s.log").exists())
 
-    def end_by(self, number: int) -> None:
-        """Ends tools/where by a signal while lab runs."""
+    def end_by(self, number: int, tool: str, given: List[str]) -> Tuple[int, str]:
+        """Ends a tool by a signal while lab runs. Returns its status, and what it says on the standard error."""
         named = {"LAB": str(self.folder / "lab"), "TMPDIR": str(self.room), "PROCESS": str(self.folder / "process")}
-        words = [sys.executable, "-c", HEED, sys.executable, str(TOP / "tools/where"), "s.resc"]
+        words = [sys.executable, "-c", HEED, sys.executable, str(TOP / "tools" / tool), *given]
         (self.folder / "process").write_text("", encoding="utf-8")
         env = {**os.environ, **named}
-        with subprocess.Popen(words, cwd=self.folder, env=env, stderr=subprocess.DEVNULL) as process:
+        with subprocess.Popen(words, cwd=self.folder, env=env, stderr=subprocess.PIPE, text=True) as process:
             try:
                 self.wait_for(lambda: self.process() > 0)
-                self.assertEqual([it.name[:10] for it in self.room.iterdir()], ["lab-where-"])
+                self.assertEqual([it.name.rpartition("-")[0] for it in self.room.iterdir()], [f"lab-{tool}"])
                 process.send_signal(number)
-                process.wait(240)
+                told = process.communicate(timeout=240)[1]
                 self.wait_for(lambda: not self.is_running() and not list(self.room.iterdir()))
+                return process.returncode, told
             finally:
                 process.kill()
                 if self.is_running():
