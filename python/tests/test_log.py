@@ -202,6 +202,14 @@ class Written(InFolder):
         self.run_tool("--html", "a.html", "-", "-", status=2)
         self.run_tool("--candump", "a.log", "a.log", status=2)
         self.run_tool("--candump", "none", status=1)
+        for given, line in (
+            ("-", "[Errno 9] Bad file descriptor: 'standard input'"),
+            (".", "[Errno 21] Is a directory: '.'"),
+        ):
+            closed = subprocess.run(
+                ["sh", "-c", '"$0" --candump "$1" <&-', TOOL, given], cwd=self.folder, capture_output=True
+            )
+            self.assertEqual((closed.returncode, closed.stderr.decode()), (1, f"tools/log: {line}\n"))
         self.run_tool("--html", "none/a.html", "a.log", status=1)
         self.assertIn("tools/log --split FOLDER", self.run_tool("--help"))
 
