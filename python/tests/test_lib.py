@@ -8,6 +8,7 @@ import unittest
 from typing import Any, Dict, List, Optional, Tuple
 
 from labdev import cases
+from labtools.common.program import TOP
 from labtools.boards import machine
 from labtools.boards import snapshot
 from labtools.boards import stacks
@@ -126,6 +127,39 @@ class Images(unittest.TestCase):
             for path, wanted in shown.items():
                 self.assertEqual(elf.short(path), wanted)
             os.chdir(before)
+
+
+class Forms(unittest.TestCase):
+    """The places of fields are those of the ELF manual: of the header, of the first segment and of a section's header."""
+
+    def fault_with(self, at: int, value: int, width: int) -> str:
+        """What is wrong first with ask.elf where a field is another one."""
+        data = bytearray(self.data)
+        data[at : at + width] = value.to_bytes(width, "little")
+        return next(elf.faults_of(bytes(data)), "")
+
+    def test_each_fault_of_a_table_is_told(self) -> None:
+        self.data = (TOP / "python/tests/data/where/ask.elf").read_bytes()
+        segment, first, count = (
+            int.from_bytes(self.data[at:end], "little") for at, end in ((28, 32), (32, 36), (48, 50))
+        )
+        places = [first + 40 * number for number in range(count)]
+        (symbols,) = (number for number, at in enumerate(places) if self.data[at + 4] == 2)
+        for at, value, width, wanted in (
+            (36, 0, 4, ""),
+            (42, 31, 2, "the headers of its segments have 31 bytes, and not 32"),
+            (46, 41, 2, "the headers of its sections have 41 bytes, and not 40"),
+            (28, len(self.data) - 31, 4, "the headers of its segments end behind its end"),
+            (48, count + 1, 2, "the headers of its sections end behind its end"),
+            (segment + 16, len(self.data), 4, "segment 0 ends behind its end"),
+            (places[1] + 16, len(self.data), 4, "section 1 ends behind its end"),
+            (50, 0, 2, "the names of its sections are nowhere"),
+            (50, count, 2, "the names of its sections are nowhere"),
+            (places[symbols] + 24, count, 4, "the names of its symbols are nowhere"),
+            (places[symbols] + 36, 17, 4, f"section {symbols} has symbols of 17 bytes, and not 16"),
+        ):
+            with self.subTest(at=at, value=value):
+                self.assertEqual(self.fault_with(at, value, width), wanted)
 
 
 class Tables(unittest.TestCase):

@@ -2,6 +2,7 @@
 runs demos and tools with nothing of the repository on the path; the manual pages; the completion; what lintian says.
 """
 import base64
+import concurrent.futures
 import csv
 import functools
 import gzip
@@ -225,8 +226,10 @@ class Packages(unittest.TestCase):
         for kind in KINDS:
             with self.subTest(kind=kind):
                 place = self.place(kind)
-                for name in demos:
-                    ran = as_another([str(place.lab), "run", f"demo/{name}/s.resc"], place.folder)
+                words = [[str(place.lab), "run", f"demo/{name}/s.resc"] for name in demos]
+                with concurrent.futures.ThreadPoolExecutor(4) as pool:
+                    runs = list(pool.map(lambda it: as_another(it, place.folder), words))
+                for name, ran in zip(demos, runs):
                     self.assertEqual(ran.stdout, (TOP / f"demo/{name}/output").read_text(encoding="utf-8"), name)
                     self.assertEqual(ran.returncode, 0, name)
                 compared = as_another([place.tool("expect"), "demo/hub/s.resc", "demo/hub/output"], place.folder)
