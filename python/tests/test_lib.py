@@ -8,11 +8,11 @@ import unittest
 from typing import Any, Dict, List, Optional, Tuple
 
 from labdev import cases
-from labtools.common.program import TOP
 from labtools.boards import machine
 from labtools.boards import snapshot
 from labtools.boards import stacks
 from labtools.boards import traps
+from labtools.common.program import TOP
 from labtools.elf import elf
 from labtools.elf import unwind
 
@@ -140,9 +140,8 @@ class Forms(unittest.TestCase):
 
     def test_each_fault_of_a_table_is_told(self) -> None:
         self.data = (TOP / "python/tests/data/where/ask.elf").read_bytes()
-        segment, first, count = (
-            int.from_bytes(self.data[at:end], "little") for at, end in ((28, 32), (32, 36), (48, 50))
-        )
+        fields = (28, 32), (32, 36), (48, 50)
+        segment, first, count = (int.from_bytes(self.data[at:end], "little") for at, end in fields)
         places = [first + 40 * number for number in range(count)]
         (symbols,) = (number for number, at in enumerate(places) if self.data[at + 4] == 2)
         for at, value, width, wanted in (
