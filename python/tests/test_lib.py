@@ -130,7 +130,7 @@ class Images(unittest.TestCase):
 
 
 class Forms(unittest.TestCase):
-    """The places of fields are those of the ELF manual: of the header, of the first segment and of a section's header."""
+    """The places of fields are those of the ELF manual: of the header, of a segment and of the header of a section."""
 
     def fault_with(self, at: int, value: int, width: int) -> str:
         """What is wrong first with ask.elf where a field is another one."""
