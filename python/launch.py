@@ -8,7 +8,7 @@ from labtools.common.program import has_tool, name_called, run_called
 def main() -> None:
     """Those who change lab have further tools, in a package that is not installed."""
     if has_tool("labdev", name_called()):
-        runpy.run_module(f"labdev.{name_called()}", run_name="__main__", alter_sys=True)
+        runpy.run_module(f"labdev.{name_called()}", run_name="__main__")
     run_called()
 
 
