@@ -9,7 +9,7 @@ import os
 import pathlib
 import subprocess
 import tempfile
-from typing import Any, Sequence
+from typing import Any, Optional, Sequence
 
 # The folder takes another name first, under which nobody puts anything into it.
 KEEPER = """\
@@ -21,10 +21,11 @@ kill -KILL 0
 
 
 class Room:
-    """The folder, until this process ends or calls `close`. Made by the first thread, before others are there."""
+    """The folder, until this process ends or calls `close`. Made by the first thread, before others are there. It
+    stands in the folder `within` if one is given, and else where the system has folders for a time."""
 
-    def __init__(self, prefix: str) -> None:
-        self.path = pathlib.Path(tempfile.mkdtemp(prefix=prefix))
+    def __init__(self, prefix: str, within: Optional[pathlib.Path] = None) -> None:
+        self.path = pathlib.Path(tempfile.mkdtemp(prefix=prefix, dir=within))
         end, self.end = os.pipe()
         self.keeper = subprocess.Popen(
             ["sh", "-c", KEEPER, "sh", str(self.path)],
