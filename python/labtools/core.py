@@ -56,6 +56,8 @@ def cores_of(held: Held) -> Dict[str, bytes]:
     for board in held["boards"]:
         if not NAME.fullmatch(board["name"]):
             raise NoSnapshot(f"{board['name']} is no name of a board")
+        if core_name(board["name"]) in cores:
+            raise NoSnapshot(f"two boards are {board['name']}")
         machine = machine_of(board, held["time"])
         if machine is not None:
             cores[core_name(board["name"])] = core_files.core_of(machine)

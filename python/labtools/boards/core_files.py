@@ -44,7 +44,7 @@ class Segment:
 
 
 def segments_of(region: Region) -> List[Segment]:
-    """Returns the bytes of a memory, all of them: gdb takes what a core lacks from the firmware's ELF file, also where a
+    """Returns all bytes of a memory: gdb takes what a core lacks from the ELF file of the firmware, also where a
     segment is said to be longer in memory than in the core."""
     found = []
     pages = range(-(-region.size // PAGE))
