@@ -13,9 +13,9 @@ A comment in a document, on a line of its own, says what the block after it is; 
 At its end a comment may say `with PROGRAM`, or `with FILE`: the block is tried only where that program, or that file,
 is installed on the machine.
 
-Each document has a room of its own, a new folder in which its commands run. `lab`, `tools` and `demo` are there. With
-LAB set, `lab` is ./lab with that program. What is passed over is told by a line that begins with `passed over`. It ends
-with 0, with 1 where something is not so, and with 2 where a document cannot be read.
+Each document has a room of its own, a new folder in which its commands run. `lab`, `tools`, `python` and `demo` are
+there. With LAB set, `lab` is ./lab with that program. What is passed over is told by a line that begins with `passed
+over`. It ends with 0, with 1 where something is not so, and with 2 where a document cannot be read.
 """
 import glob
 import os
@@ -120,12 +120,13 @@ def try_block(kind: str, words: str, block: str, room: str) -> Optional[str]:
 
 
 def furnish(room: str, program: str) -> None:
-    """Puts `lab`, `tools` and `demo` into a room, as a package has them."""
+    """Puts `lab`, `tools`, `python` and `demo` into a room, as a package has them."""
     os.mkdir(f"{room}/bin")
     os.symlink(program, f"{room}/bin/lab")
     for name in "lab", "VERSION":
         shutil.copy(f"{TOP}/{name}", f"{room}/{name}")
-    os.symlink(f"{TOP}/tools", f"{room}/tools")
+    for name in "tools", "python":
+        os.symlink(f"{TOP}/{name}", f"{room}/{name}")
     shutil.copytree(f"{TOP}/demo", f"{room}/demo")
 
 

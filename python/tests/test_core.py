@@ -346,8 +346,9 @@ class Faults(Room):
                 make(path)
                 before = os.lstat(path), self.held("others")
                 told = self.refused("kept", "others")
-                line = f"tools/core: others/answerer.core: it is no core file of tools/core, and stays as it is\n"
-                self.assertEqual((told, os.lstat(path), self.held("others")), (line, *before))
+                after = os.lstat(path), self.held("others")
+                line = "tools/core: others/answerer.core: it is no core file of tools/core, and stays as it is\n"
+                self.assertEqual((told, after[1], after[0].st_ino), (line, before[1], before[0].st_ino))
                 self.assertEqual(os.listdir(cores), ["answerer.core"])
                 path.rmdir() if path.is_dir() else path.unlink()
 
@@ -413,6 +414,13 @@ class Faults(Room):
             self.assertTrue(all(it.startswith(b"\x7fELF") for it in cores.values()))
         self.assertTrue(40 < refused < 360, refused)
 
+    def test_an_output_that_is_full_is_told(self) -> None:
+        words = [sys.executable, str(TOP / "tools/core"), "kept", "cores"]
+        with open("/dev/full", "wb") as full:
+            ran = subprocess.run(words, cwd=self.room, stdout=full, stderr=subprocess.PIPE, text=True)
+        line = "tools/core: [Errno 28] No space left on device\n"
+        self.assertEqual((ran.returncode, ran.stderr, len(self.held("cores"))), (1, line, 2))
+
     def test_what_cannot_be_read_or_run(self) -> None:
         self.assertEqual(self.refused("none.resc", "cores"), "tools/core: none.resc: No such file or directory\n")
         self.write("bad.resc", "mach create\ncpu Wrong\n")
@@ -425,5 +433,5 @@ class Faults(Room):
         self.assertFalse((self.room / "cores").exists())
 
     def test_words_that_are_wrong(self) -> None:
-        for words in [], ["kept"], ["kept", "cores", "more"], ["--at", "soon", "kept", "cores"]:
-            self.assertEqual(self.call(*words)[:2], (2, ""))
+        for words in "", "kept", "kept cores more", "--at soon kept cores":
+            self.assertEqual(self.call(*words.split())[:2], (2, ""))
