@@ -7,6 +7,7 @@ beside it.
 import contextlib
 import os
 import pathlib
+import secrets
 import subprocess
 import tempfile
 from typing import Any, Optional, Sequence
@@ -25,7 +26,7 @@ class Room:
     stands in the folder `within` if one is given, and else where the system has folders for a time."""
 
     def __init__(self, prefix: str, within: Optional[pathlib.Path] = None) -> None:
-        self.path = pathlib.Path(tempfile.mkdtemp(prefix=prefix, dir=within))
+        self.path = (within or pathlib.Path(tempfile.gettempdir())) / f"{prefix}{secrets.token_hex(8)}"
         end, self.end = os.pipe()
         self.keeper = subprocess.Popen(
             ["sh", "-c", KEEPER, "sh", str(self.path)],
@@ -35,6 +36,12 @@ class Room:
             preexec_fn=os.setpgrp,
         )
         os.close(end)
+        # Not before, so that nothing is left where this process ends in between.
+        try:
+            self.path.mkdir(0o700)
+        except BaseException:
+            self.close()
+            raise
 
     def start(self, words: Sequence[str], **how: Any) -> "subprocess.Popen[bytes]":
         """Starts a process that ends with the folder. No other thread may be there."""
