@@ -347,7 +347,7 @@ class Faults(Room):
                 before = os.lstat(path), self.held("others")
                 told = self.refused("kept", "others")
                 after = os.lstat(path), self.held("others")
-                line = "tools/core: others/answerer.core: it is no core file of tools/core, and stays as it is\n"
+                line = "tools/core: others/answerer.core: it is no core of a board, and stays as it is\n"
                 self.assertEqual((told, after[1], after[0].st_ino), (line, before[1], before[0].st_ino))
                 self.assertEqual(os.listdir(cores), ["answerer.core"])
                 path.rmdir() if path.is_dir() else path.unlink()

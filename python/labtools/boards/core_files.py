@@ -149,7 +149,7 @@ def check(folder: pathlib.Path, names: Iterable[str]) -> None:
         raise Refused(f"{folder}: it is no folder")
     for path in (folder / name for name in names):
         if os.path.lexists(path) and not (path.is_file() and is_core(path)):
-            raise Refused(f"{path}: it is no core file of tools/core, and stays as it is")
+            raise Refused(f"{path}: it is no core of a board, and stays as it is")
 
 
 def write(folder: pathlib.Path, files: Dict[str, bytes]) -> None:
