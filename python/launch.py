@@ -1,20 +1,15 @@
 #!/usr/bin/env python3
 """Runs the tool that has the name of the link by which this is called: tools/suite, ./test, or lab-suite."""
-import importlib
-import importlib.util
-import pathlib
 import runpy
-import sys
 
-from labtools.common.program import run_tool
+from labtools.common.program import has_tool, name_called, run_called
 
 
 def main() -> None:
-    name = pathlib.PurePath(sys.argv[0]).name
-    name = name[len("lab-") :] if name.startswith("lab-") else name
-    if importlib.util.find_spec(f"labtools.{name}"):
-        run_tool(importlib.import_module(f"labtools.{name}"))
-    runpy.run_module(f"labdev.{name}", run_name="__main__")
+    """Those who change lab have further tools, in a package that is not installed."""
+    if has_tool("labdev", name_called()):
+        runpy.run_module(f"labdev.{name_called()}", run_name="__main__", alter_sys=True)
+    run_called()
 
 
 if __name__ == "__main__":

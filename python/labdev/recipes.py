@@ -13,9 +13,9 @@ A comment in a document, on a line of its own, says what the block after it is; 
 At its end a comment may say `with PROGRAM`, or `with FILE`: the block is tried only where that program, or that file,
 is installed on the machine.
 
-Each document has a room of its own, a new folder in which its commands run. `lab`, `tools`, `python` and `demo` are
-there. With LAB set, `lab` is ./lab with that program. What is passed over is told by a line that begins with `passed
-over`. It ends with 0, with 1 where something is not so, and with 2 where a document cannot be read.
+Each document has a room of its own, a new folder in which its commands run. `lab`, `tools` and `demo` are there. With
+LAB set, `lab` is ./lab with that program. What is passed over is told by a line that begins with `passed over`. It ends
+with 0, with 1 where something is not so, and with 2 where a document cannot be read.
 """
 import glob
 import os
@@ -26,6 +26,7 @@ import sys
 import tempfile
 from typing import Dict, Iterator, List, Optional, Tuple
 
+from labdev.pythons import with_pyelftools
 from labtools.common.program import TOP, answer_help, end_wrong, path_of_program
 
 
@@ -66,8 +67,9 @@ def block_after(lines: List[str]) -> str:
 
 def run(command: str, room: str) -> Tuple[int, str, str]:
     """Runs a command in the room, and returns its status and what it prints."""
+    words, env = ["bash", "-e", "-c", command], {**os.environ, "PATH": f"{room}/.python:{os.environ['PATH']}"}
     ran = subprocess.run(
-        ["bash", "-e", "-c", command], cwd=room, stdin=subprocess.DEVNULL, capture_output=True, text=True, timeout=300
+        words, cwd=room, env=env, stdin=subprocess.DEVNULL, capture_output=True, text=True, timeout=300
     )
     return ran.returncode, ran.stdout, ran.stderr
 
@@ -99,6 +101,9 @@ def do_lines(block: str, room: str) -> None:
 
 
 def is_here(needed: str) -> bool:
+    """Whether a program is installed, a file is there, or a Python has pyelftools."""
+    if needed == "pyelftools":
+        return with_pyelftools() is not None
     return shutil.which(needed) is not None or os.path.exists(needed)
 
 
@@ -120,7 +125,9 @@ def try_block(kind: str, words: str, block: str, room: str) -> Optional[str]:
 
 
 def furnish(room: str, program: str) -> None:
-    """Puts `lab`, `tools`, `python` and `demo` into a room, as a package has them."""
+    """Puts `lab`, `tools` and `demo` into a room, as a package has them, and a Python, with pyelftools if possible."""
+    os.mkdir(f"{room}/.python")
+    os.symlink(with_pyelftools() or sys.executable, f"{room}/.python/python3")
     os.mkdir(f"{room}/bin")
     os.symlink(program, f"{room}/bin/lab")
     for name in "lab", "VERSION":

@@ -32,7 +32,6 @@ from labtools.common.program import end_wrong
 
 
 DEBUGGERS = "riscv64-unknown-elf-gdb", "riscv32-unknown-elf-gdb", "gdb-multiarch"
-USAGE = "tools/core [--at TIME] [--until TIME] SCRIPT or SNAPSHOT FOLDER"
 # The names that lab takes for boards, so that none leads out of the folder.
 NAME = re.compile(r"[\w-]+", re.ASCII)
 
@@ -79,7 +78,7 @@ def lines_of(board: Dict[str, Any], images: List[str], folder: pathlib.Path) -> 
 
 
 def asked(words: List[str]) -> argparse.Namespace:
-    parser = looks.parser_of(USAGE, __doc__)
+    parser = looks.parser_of(__doc__)
     parser.add_argument("folder", type=pathlib.Path)
     return parser.parse_args(words)
 

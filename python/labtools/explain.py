@@ -22,7 +22,7 @@ import sys
 from typing import List, Optional
 
 from labtools.common import escapes
-from labtools.common.program import answer_help, as_called, name_of_script
+from labtools.common.program import parser_of
 from labtools.scripts import cures
 from labtools.scripts import mistakes
 from labtools.scripts import reads
@@ -180,8 +180,7 @@ def explain(program: str, status: int, script: str, until: Optional[int], is_che
 
 
 def main(words: List[str]) -> None:
-    form = argparse.RawDescriptionHelpFormatter
-    parser = argparse.ArgumentParser(prog=name_of_script(), description=as_called(__doc__), formatter_class=form)
+    parser = parser_of(__doc__)
     parser.add_argument("program", metavar="PROGRAM")
     parser.add_argument("status", metavar="STATUS", type=int)
     parser.add_argument("words", metavar="WORDS", nargs=argparse.REMAINDER)

@@ -19,7 +19,7 @@ import sys
 import tempfile
 from typing import Dict, Iterator, List, Optional, Tuple
 
-from labtools.common.program import answer_help, as_called, end_with, name_of_script
+from labtools.common.program import parser_of
 from labtools.logs import log_lines
 from labtools.logs.log_lines import Line, Log
 
@@ -157,8 +157,7 @@ def page(logs: List[Log]) -> str:
 
 
 def main(words: List[str]) -> int:
-    form = argparse.RawDescriptionHelpFormatter
-    parser = argparse.ArgumentParser(prog=name_of_script(), description=as_called(__doc__), formatter_class=form)
+    parser = parser_of(__doc__)
     forms = parser.add_mutually_exclusive_group(required=True)
     forms.add_argument("--split", metavar="FOLDER", type=pathlib.Path)
     forms.add_argument("--candump", action="store_true")

@@ -11,14 +11,12 @@ It ends with 0; with 1 where a file is not there, a line is refused or the list 
 words are wrong. With --json it prints the same as data: `files`, `saves` (the files of `Save`) and `refusal`, which may
 be null.
 """
-import argparse
 import dataclasses
 import json
 import pathlib
-
 from typing import List
 
-from labtools.common.program import answer_help, as_called, end_with, name_of_script
+from labtools.common.program import parser_of
 from labtools.scripts import reads
 
 
@@ -41,9 +39,8 @@ def print_refusal(refusal: reads.Refusal) -> None:
 
 
 def main(words: List[str]) -> int:
-    form = argparse.RawDescriptionHelpFormatter
-    parser = argparse.ArgumentParser(prog=name_of_script(), description=as_called(__doc__), formatter_class=form)
-    parser.add_argument("--json", action="store_true", help="print data")
+    parser = parser_of(__doc__)
+    parser.add_argument("--json", action="store_true")
     parser.add_argument("script", metavar="SCRIPT")
     given = parser.parse_args(words)
     reading = reads.follow(given.script, pathlib.Path("."))

@@ -8,13 +8,12 @@ of lab or cannot be read, or what it prints cannot be written. Addresses, regist
 counts and times decimal. A page of memory is told by its number and how many bytes of it are not 0.
 """
 import sys
-
 from typing import List
 
 from labtools.boards import kept_labs
 from labtools.boards import snapshot
 from labtools.common.escapes import shown
-from labtools.common.program import answer_help, as_called, end_with, end_wrong
+from labtools.common.program import as_called, end_wrong
 
 
 def main(words: List[str]) -> None:

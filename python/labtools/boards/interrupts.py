@@ -8,7 +8,7 @@ from labtools.boards.machine import PINS, Device, Hart, Machine, there
 
 PRIORITIES, ENABLES, CONTEXTS, CLAIM = 0, 0x2000, 0x200000, 4
 SOURCES = 128
-CONTROLLER = ("controller", {})
+CONTROLLER: Tuple[str, Dict[str, Any]] = ("controller", {})
 
 
 @dataclass(frozen=True)

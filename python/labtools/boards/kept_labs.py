@@ -38,8 +38,8 @@ def is_refused(data: bytes) -> bool:
     try:
         with in_memory(data) as kept, in_memory(f"Load @/dev/fd/{kept}\n".encode()) as script:
             words = [program, "check", f"/dev/fd/{script}"]
-            how = {"stdin": subprocess.DEVNULL, "stdout": subprocess.PIPE, "stderr": subprocess.DEVNULL}
-            ran = subprocess.run(words, pass_fds=(kept, script), check=False, **how)
+            null = subprocess.DEVNULL
+            ran = subprocess.run(words, pass_fds=(kept, script), stdin=null, stdout=subprocess.PIPE, stderr=null)
     except OSError:
         return False
     return ran.returncode == 3 and REFUSED.fullmatch(ran.stdout) is not None

@@ -1,15 +1,14 @@
 """What the tools share that look at a laboratory: their words, how they come to it, and what they say of faults."""
 import argparse
 import contextlib
-import sys
 from typing import Dict, Iterator, List, Optional, Tuple
 
 from labtools.boards import kept_labs
 from labtools.boards import run_until
 from labtools.boards import snapshot
+from labtools.common import program
 from labtools.common import rooms
 from labtools.common.escapes import shown
-from labtools.common.program import as_called, end_wrong, name_of_script
 from labtools.scripts import resc
 
 
@@ -20,14 +19,9 @@ def time_of(word: str) -> int:
         raise argparse.ArgumentTypeError(f"{word} is no time") from fault
 
 
-def parser_of(usage: str, description: Optional[str]) -> argparse.ArgumentParser:
-    """Returns a parser of the words that say which laboratory is looked at, and when."""
-    parser = argparse.ArgumentParser(
-        prog=name_of_script(),
-        usage=as_called(usage),
-        description=as_called(description),
-        formatter_class=argparse.RawDescriptionHelpFormatter,
-    )
+def parser_of(head: Optional[str]) -> argparse.ArgumentParser:
+    """Returns a parser of the words that say which laboratory a tool with this head looks at, and when."""
+    parser = program.parser_of(head)
     parser.add_argument("--at", type=time_of)
     parser.add_argument("--until", type=time_of, default=1_000_000)
     parser.add_argument("file")
@@ -47,14 +41,12 @@ def laboratory(given: argparse.Namespace, prefix: str) -> Tuple[run_until.Held, 
 
 @contextlib.contextmanager
 def faults_told(file: str) -> Iterator[None]:
-    """Ends the tool with a line where this file cannot be taken, and in silence where it is interrupted."""
+    """Ends the tool with a line where this file cannot be taken."""
     try:
         yield
     except OSError as fault:
-        end_wrong(shown(f"{fault.filename}: {fault.strerror}"), 1)
+        program.end_wrong(shown(f"{fault.filename}: {fault.strerror}"), 1)
     except run_until.NoRun as fault:
-        end_wrong(shown(f"{file}: {fault}"), 1)
+        program.end_wrong(shown(f"{file}: {fault}"), 1)
     except snapshot.NoSnapshot as fault:
-        end_wrong(shown(f"{file}: no snapshot of lab: {fault}"), 1)
-    except KeyboardInterrupt:
-        sys.exit(130)
+        program.end_wrong(shown(f"{file}: no snapshot of lab: {fault}"), 1)

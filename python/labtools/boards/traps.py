@@ -30,7 +30,7 @@ def is_exception(state: Dict[str, int]) -> bool:
 
 def is_at_first_instruction(hart: Hart) -> bool:
     """Whether the handler's first instruction has trapped and is the next one again."""
-    return hart.pc == hart.state["mtvec"] & ~3 == hart.state["mepc"]
+    return bool(hart.pc == hart.state["mtvec"] & ~3 == hart.state["mepc"])
 
 
 def is_within_handler(stack: Stack, frames: List[Frame]) -> bool:

@@ -1,6 +1,10 @@
-"""What the scripts of tools/ share: where the program stands that they run, what they say of wrong words and of outputs
-that fail, and their answer to --help."""
+"""What the tools share: which one is run, where the program stands that they run, what they say of wrong words and of
+outputs that fail, and their answer to --help."""
+import argparse
 import contextlib
+import importlib
+import importlib.util
+import io
 import os
 import pathlib
 import re
@@ -9,13 +13,23 @@ import signal
 import subprocess
 import sys
 from types import ModuleType
-from typing import Callable, Collection, NoReturn, Optional
+from typing import Callable, Collection, Dict, List, NoReturn, Optional
 
-TOP = pathlib.Path(__file__).resolve().parents[3]
+# The package `labtools` itself, whose modules are the tools.
+TOOLS = pathlib.Path(__file__).resolve().parents[1]
 
 
-# A script of tools/ and ./lab as texts name them, but not as the ends of longer paths.
-NAMED = re.compile(r"(?<![\w./)}-])tools/([a-z]+)\b(?!\.)")
+def top_of(tools: pathlib.Path) -> pathlib.Path:
+    """Returns the folder that has ./lab, tools/ and docs/: `share` of the package where pip has installed it, and else
+    the repository or the unpacked archive in which it stands."""
+    share = tools / "share"
+    return share if share.is_dir() else tools.parents[1]
+
+
+TOP = top_of(TOOLS)
+
+# A tool and ./lab as texts name them, but not as the ends of longer paths.
+NAMED = re.compile(r"(?<![\w./)}-])tools/([a-z]+)\b(?!\.\w)")
 LAB = re.compile(r"(?<![\w./])\./lab\b(?![\w./-])")
 
 
@@ -26,6 +40,11 @@ def named_as_installed(text: str, scripts: Collection[str]) -> str:
     return LAB.sub("lab", text)
 
 
+def names_of_tools() -> List[str]:
+    """Returns the names of the tools for those who use lab: the files of tools/ of which `labtools` has a module."""
+    return sorted(it.name for it in (TOP / "tools").glob("*") if (TOOLS / f"{it.name}.py").is_file())
+
+
 def is_called_as_installed() -> bool:
     return os.path.basename(sys.argv[0]).startswith("lab-")
 
@@ -34,7 +53,7 @@ def as_called(text: Optional[str]) -> str:
     """Returns a text of the script that runs, in which commands have the names by which this one was called."""
     if not is_called_as_installed():
         return text or ""
-    return named_as_installed(text or "", {it.name for it in (TOP / "tools").iterdir() if it.is_file()})
+    return named_as_installed(text or "", names_of_tools())
 
 
 def name_of_script() -> str:
@@ -46,12 +65,28 @@ def name_of_script() -> str:
     return str(path.relative_to(TOP)) if TOP in path.parents else sys.argv[0]
 
 
+def forms_of(head: Optional[str]) -> str:
+    """Returns the lines of a script's head that say with which words it is called."""
+    return as_called(head).split("\n\n")[1]
+
+
+def parser_of(head: Optional[str]) -> argparse.ArgumentParser:
+    """Returns a parser for the words of the script that runs, which shows its forms where they are wrong."""
+    said, forms = as_called(head), forms_of(head).strip().replace("%", "%%")
+    form = argparse.RawDescriptionHelpFormatter
+    return argparse.ArgumentParser(prog=name_of_script(), usage=forms, description=said, formatter_class=form)
+
+
+def tell(text: str) -> None:
+    """Prints a line on the standard error, which may be full, or closed: it is none then."""
+    with contextlib.suppress(OSError, AttributeError):
+        sys.stderr.write(f"{text}\n")
+        sys.stderr.flush()
+
+
 def end_wrong(text: object, status: int = 2) -> NoReturn:
     """Ends the script with a line on the standard error."""
-    # It may be full, or closed: it is none then.
-    with contextlib.suppress(OSError, AttributeError):
-        sys.stderr.write(f"{name_of_script()}: {text}\n")
-        sys.stderr.flush()
+    tell(f"{name_of_script()}: {text}")
     raise SystemExit(status)
 
 
@@ -103,8 +138,7 @@ def standing_program() -> Optional[str]:
 
 def said_by(*words: str) -> bytes:
     """Returns what a command prints that ends with 0."""
-    how = {"stdin": subprocess.DEVNULL, "stdout": subprocess.PIPE, "stderr": subprocess.DEVNULL}
-    return subprocess.run(words, check=True, **how).stdout
+    return subprocess.check_output(words, stdin=subprocess.DEVNULL, stderr=subprocess.DEVNULL)
 
 
 def end_with_reader() -> None:
@@ -113,9 +147,12 @@ def end_with_reader() -> None:
 
 
 def open_output() -> None:
-    """Makes a standard output that is closed one that cannot be written, so that this is seen."""
+    """Makes a standard output that is closed one that cannot be written, so that this is seen. What its encoding lacks
+    is written as an escape."""
     if sys.stdout is None:
         sys.stdout = os.fdopen(os.open(os.devnull, os.O_RDONLY), "w")
+    if isinstance(sys.stdout, io.TextIOWrapper):
+        sys.stdout.reconfigure(errors="backslashreplace")
 
 
 def drop_output() -> None:
@@ -125,8 +162,8 @@ def drop_output() -> None:
 
 
 def end_with(main: Callable[[], Optional[int]], failed: int = 1) -> NoReturn:
-    """Ends the script with what it answers: in silence where nobody reads on what it prints, and with a line and the
-    status `failed` where that cannot be written, or a file cannot be read."""
+    """Ends the script with what it answers: in silence where nobody reads on what it prints, with a line and the status
+    `failed` where that cannot be written, or a file cannot be read, and with 130 where it was interrupted."""
     end_with_reader()
     open_output()
     try:
@@ -137,6 +174,8 @@ def end_with(main: Callable[[], Optional[int]], failed: int = 1) -> NoReturn:
     except OSError as fault:
         drop_output()
         end_wrong(fault, failed)
+    except KeyboardInterrupt:
+        end_wrong("it was interrupted", 130)
     raise SystemExit(status)
 
 
@@ -148,7 +187,47 @@ def answer_help(head: Optional[str], failed: int = 1) -> None:
 
 def run_tool(tool: ModuleType) -> NoReturn:
     """Runs a tool with the words of the command line, and ends with what it answers. A tool is a module with a function
-    `main`, which takes the words. To --help it answers with the text of the module. `UNWRITTEN` is its status where what
-    it prints cannot be written, if that is not 1."""
-    answer_help(tool.__doc__, getattr(tool, "UNWRITTEN", 1))
-    end_with(lambda: tool.main(sys.argv[1:]), getattr(tool, "UNWRITTEN", 1))
+    `main`, which takes the words. To --help it answers with the text of the module. `UNWRITTEN` is its status where
+    what it prints cannot be written, if that is not 1."""
+    failed = int(getattr(tool, "UNWRITTEN", 1))
+    main: Callable[[List[str]], Optional[int]] = tool.main
+    answer_help(tool.__doc__, failed)
+    end_with(lambda: main(sys.argv[1:]), failed)
+
+
+def environment() -> Dict[str, str]:
+    """Returns the environment of ./lab, by which it has this Python explain what a run leaves unsaid."""
+    return {"LAB_PYTHON": sys.executable, **os.environ}
+
+
+def run_lab() -> NoReturn:
+    """Becomes ./lab."""
+    lab = str(TOP / "lab")
+    try:
+        os.execve(lab, [lab, *sys.argv[1:]], environment())
+    except OSError as fault:
+        end_wrong(f"{lab}: {fault.strerror}", 70)
+
+
+def name_called() -> str:
+    """Returns the name of the tool by which this was called: that of tools/suite, ./test, or lab-suite."""
+    name = os.path.basename(sys.argv[0])
+    return name[len("lab-") :] if name.startswith("lab-") else name
+
+
+def run_called(*packages: str) -> NoReturn:
+    """Runs what has the name by which this was called: lab itself, or a tool of one of these packages. Without packages
+    it is the entry point of what pip installs, whose tools are those of `labtools`."""
+    name = name_called()
+    if name == "lab":
+        run_lab()
+    for package in packages or ("labtools",):
+        if has_tool(package, name):
+            run_tool(importlib.import_module(f"{package}.{name}"))
+    end_wrong(f"there is no tool {name}")
+
+
+def has_tool(package: str, name: str) -> bool:
+    """Whether a package is there and has a module of this name."""
+    has_package = name.isidentifier() and importlib.util.find_spec(package) is not None
+    return has_package and importlib.util.find_spec(f"{package}.{name}") is not None
