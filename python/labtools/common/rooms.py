@@ -7,9 +7,10 @@ beside it.
 import contextlib
 import os
 import pathlib
+import secrets
 import subprocess
 import tempfile
-from typing import Any, Sequence
+from typing import Any, Optional, Sequence
 
 # The folder takes another name first, under which nobody puts anything into it.
 KEEPER = """\
@@ -21,10 +22,11 @@ kill -KILL 0
 
 
 class Room:
-    """The folder, until this process ends or calls `close`. Made by the first thread, before others are there."""
+    """The folder, until this process ends or calls `close`. Made by the first thread, before others are there. It
+    stands in the folder `within` if one is given, and else where the system has folders for a time."""
 
-    def __init__(self, prefix: str) -> None:
-        self.path = pathlib.Path(tempfile.mkdtemp(prefix=prefix))
+    def __init__(self, prefix: str, within: Optional[pathlib.Path] = None) -> None:
+        self.path = (within or pathlib.Path(tempfile.gettempdir())) / f"{prefix}{secrets.token_hex(8)}"
         end, self.end = os.pipe()
         self.keeper = subprocess.Popen(
             ["sh", "-c", KEEPER, "sh", str(self.path)],
@@ -34,6 +36,12 @@ class Room:
             preexec_fn=os.setpgrp,
         )
         os.close(end)
+        # Not before, so that nothing is left where this process ends in between.
+        try:
+            self.path.mkdir(0o700)
+        except BaseException:
+            self.close()
+            raise
 
     def start(self, words: Sequence[str], **how: Any) -> "subprocess.Popen[bytes]":
         """Starts a process that ends with the folder. No other thread may be there."""
