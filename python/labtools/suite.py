@@ -34,16 +34,14 @@ at last `N passed, M failed`, in which an error counts as failed. What differs g
 With LAB set that program is run in place of ./lab of this repository: LAB=/opt/lab/lab tools/suite ..
 """
 import argparse
-import contextlib
 import pathlib
 import sys
-from typing import Dict, List, Sequence
+from typing import List
 
 from labtools.suites import sessions
 from labtools.suites import shards
 from labtools.suites import suite_reports
 from labtools.suites import trials
-from labtools.suites.suite_tests import Undone
 
 # What this ends with where what it prints cannot be written.
 UNWRITTEN = 2
@@ -59,16 +57,6 @@ def parser() -> argparse.ArgumentParser:
     return made
 
 
-def befores_of(tests: Sequence[str], trial: trials.Trials) -> Dict[str, List[str]]:
-    """The scripts before each test. One of which that cannot be told is tried with no other."""
-    befores: Dict[str, List[str]] = {}
-    for test in tests:
-        befores[test] = []
-        with contextlib.suppress(Undone, OSError, ValueError):
-            befores[test] = trial.before.order_for(test)
-    return befores
-
-
 def report_to(given: argparse.Namespace, count: int) -> sessions.Report:
     return suite_reports.Tap(sys.stdout, count) if given.tap else sessions.Lines()
 
@@ -79,7 +67,7 @@ def run_tests(session: sessions.Session) -> int:
     tests = trials.tests_in(given.paths)
     times = shards.times_in(given.times) if given.times else {}
     trial = trials.Trials(session.runs(), sessions.tell, given.update)
-    share = shards.share_of(given.shard, befores_of(tests, trial), times) if given.shard else None
+    share = shards.share_of(given.shard, {it: trial.scripts_before(it) for it in tests}, times) if given.shard else None
     tests = share.tests if share else tests
     report = report_to(given, len(tests))
     outcomes = []

@@ -29,6 +29,8 @@ SHOWN = 40
 # What may be said after --timeout and as a number of tests or bytes.
 MOST_SECONDS = 1_000_000
 MOST = 10**18
+# What a test may print, where nothing is said.
+MOST_PRINTED = 100_000_000
 
 SIGNALS = (signal.SIGINT, signal.SIGTERM, signal.SIGHUP)
 
@@ -68,7 +70,7 @@ def parser(head: str) -> argparse.ArgumentParser:
     made.add_argument("-j", type=whole, default=len(os.sched_getaffinity(0)))
     made.add_argument("--junit", type=pathlib.Path)
     made.add_argument("--timeout", type=seconds, default=300.0)
-    made.add_argument("--most", type=whole, default=100_000_000)
+    made.add_argument("--most", type=whole, default=MOST_PRINTED)
     made.add_argument("--shard", type=shards.shard_of)
     return made
 

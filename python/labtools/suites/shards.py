@@ -1,4 +1,5 @@
 """Shares of a list of tests, each for a machine of its own, and the results of all shares as one."""
+import argparse
 import dataclasses
 import hashlib
 import heapq
@@ -46,7 +47,7 @@ def shard_of(word: str) -> Shard:
     """Reads K/N."""
     match = WORD.fullmatch(word)
     if not match or int(match[1]) > int(match[2]):
-        raise ValueError(f"{word} is not K/N, with K from 1 to N")
+        raise argparse.ArgumentTypeError(f"{word} is not K/N, with K from 1 to N")
     return Shard(int(match[1]), int(match[2]))
 
 
@@ -141,7 +142,7 @@ def result_in(path: pathlib.Path) -> Result:
     said = {it.get("name", ""): it.get("value", "") for it in suite.iter("property")}
     try:
         shard = shard_of(said["shard"])
-    except (KeyError, ValueError) as fault:
+    except (KeyError, argparse.ArgumentTypeError) as fault:
         raise Undone(f"{path} names no shard: --shard writes it") from fault
     return Result(path, shard, said.get("plan", ""), said.get("memory_kb", "?"), suite.findall("testcase"))
 

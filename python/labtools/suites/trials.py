@@ -88,6 +88,12 @@ class Trials:
         with contextlib.suppress(Exception):
             self.before.make_for(test)
 
+    def scripts_before(self, test: str) -> List[str]:
+        """The scripts that come before a test, and none where that cannot be told, as trying it will show."""
+        with contextlib.suppress(Undone, OSError, ValueError):
+            return self.before.order_for(test)
+        return []
+
     def outcome_of(self, test: str) -> Outcome:
         """Tries a test, or keeps its log. Whatever a test may have that nobody has thought of is told as an error of
         that test, and the others are tried."""
