@@ -3,6 +3,7 @@ import contextlib
 import os
 import pathlib
 import re
+import shutil
 import subprocess
 import sys
 import tempfile
@@ -17,6 +18,17 @@ SUITE = str(TOP / "tools/suite")
 EXPECT = str(TOP / "tools/expect")
 
 NO_VERDICT = "has no verdict (`pause .. pass`), though a board has a finisher: did the test come to its end?"
+
+DEMO_LINES = """\
+passed  T s  demo/suite/booted.resc
+passed  T s  demo/suite/hello.resc
+passed  T s  demo/suite/rounds.resc
+passed  T s  demo/suite/sum.resc
+passed  T s  demo/suite/talk.resc
+failed  T s  demo/suite/wrong_sum.resc: a test has failed: [0.000100] pause m0/fin: fail 3
+5 passed, 1 failed
+"""
+
 
 # Prints the file beside the script, and ends with the status in another one, or 0. It waits where there is a third.
 STAND_IN = """#!/bin/sh
@@ -167,3 +179,11 @@ class Bearing(WithStandIn):
         """The tests of the project all end with these errors. A suite that waits is ended after some minutes."""
         lines = "".join(f"error  T s  {name}: {cause}\n" for name, cause in names.items())
         self.expect([*words, "."], 2, f"{lines}0 passed, {len(names)} failed\n", "")
+
+
+class WithLab(Project):
+    """Tests with lab, in a folder with the demos."""
+
+    def setUp(self) -> None:
+        super().setUp()
+        shutil.copytree(TOP / "demo", self.folder / "demo", ignore=shutil.ignore_patterns("*.snap", "*.sums"))

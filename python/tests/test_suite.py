@@ -7,20 +7,10 @@ import subprocess
 from typing import Any, List
 
 from labtools.common.program import TOP
-from tests.suite_projects import NO_VERDICT, SUITE, Project, without_seconds
+from tests.suite_projects import DEMO_LINES, NO_VERDICT, SUITE, Project, WithLab, without_seconds
 
 
 DATA = TOP / "python/tests/data/project"
-
-DEMO_LINES = """\
-passed  T s  demo/suite/booted.resc
-passed  T s  demo/suite/hello.resc
-passed  T s  demo/suite/rounds.resc
-passed  T s  demo/suite/sum.resc
-passed  T s  demo/suite/talk.resc
-failed  T s  demo/suite/wrong_sum.resc: a test has failed: [0.000100] pause m0/fin: fail 3
-5 passed, 1 failed
-"""
 
 DEMO_TOLD = """\
 suite: demo/suite/boot.resc is run first
@@ -70,14 +60,6 @@ class OwnProject(Project):
         self.expect(["--update", *tests], 0, "".join(lines) + "4 passed, 0 failed\n", told)
         kept = [self.read(f"tests/{name}.log") for name in ("bus", "later", "talk")]
         self.assertEqual(kept, [(DATA / f"tests/{name}.log").read_text() for name in ("bus", "later", "talk")])
-
-
-class WithLab(Project):
-    """Tests with lab, in a folder with the demos."""
-
-    def setUp(self) -> None:
-        super().setUp()
-        shutil.copytree(TOP / "demo", self.folder / "demo", ignore=shutil.ignore_patterns("*.snap", "*.sums"))
 
 
 class Demos(WithLab):
@@ -231,12 +213,39 @@ class Servers(WithLab):
         passed = [f"demo/suite/{name}" for name in ("booted", "hello", "rounds", "sum", "talk")]
         self.assertEqual(results, [*((it, "Passed") for it in passed), ("demo/suite/wrong_sum", "Failed")])
 
+    def shards_by(self, lines: str, **variables: str) -> None:
+        """Runs the lines of a job with these variables, of which some are different in each of three jobs."""
+        statuses = []
+        for number in range(3):
+            self.environment.update({name: value.split()[number] for name, value in variables.items()})
+            statuses.append(self.call("bash", "-e", "-c", lines).returncode)
+        self.assertEqual(statuses, [0, 0, 1])
+
     def test_gitlab(self) -> None:
-        job = self.parsed("demo/suite/gitlab-ci.yml")["suite"]
-        self.assertEqual(job["artifacts"], {"when": "always", "reports": {"junit": "suite.xml"}})
-        self.try_lines("\n".join(job["script"]))
+        jobs = self.parsed("demo/suite/gitlab-ci.yml")
+        self.assertEqual(jobs["suite"]["artifacts"]["reports"], {"junit": "suite-*.xml"})
+        self.shards_by("\n".join(jobs["suite"]["script"]), CI_NODE_INDEX="1 2 3", CI_NODE_TOTAL="3 3 3")
+        self.try_lines("\n".join(jobs["suite-whole"]["script"]))
 
     def test_github(self) -> None:
-        job = self.parsed("demo/suite/github.yml")["jobs"]["suite"]
-        self.assertEqual(job["steps"][2]["with"]["path"], "suite.xml")
-        self.try_lines("\n".join(step["run"] for step in job["steps"] if "run" in step))
+        jobs = self.parsed("demo/suite/github.yml")["jobs"]
+        self.assertEqual(jobs["suite"]["strategy"]["matrix"], {"shard": ["1", "2", "3"]})
+        lines = [job["steps"][-1 if name == "whole" else 1]["run"] for name, job in jobs.items()]
+        self.shards_by(lines[0].replace("${{ matrix.shard }}", "$SHARD"), SHARD="1 2 3")
+        self.try_lines(lines[1])
+
+    def test_kubernetes(self) -> None:
+        job = self.parsed("demo/suite/kubernetes.yml")["spec"]
+        self.assertEqual((job["completionMode"], job["completions"]), ("Indexed", "3"))
+        words = job["template"]["spec"]["containers"][0]["command"]
+        self.assertEqual(words[:2], ["sh", "-c"])
+        self.environment["RESULTS"] = "."
+        self.shards_by(words[2], JOB_COMPLETION_INDEX="0 1 2")
+        self.try_lines(f"{SUITE} --merge --junit suite.xml suite-*.xml")
+
+    def test_parallel(self) -> None:
+        self.needs("parallel")
+        self.environment["HOME"] = str(self.folder)
+        self.try_lines("demo/suite/parallel.sh")
+        costs = r"suite: shard (\d)/3: 2 tests, \d+\.\d\d s, its largest process \d+ KB"
+        self.assertEqual(sorted(re.findall(costs, self.read("suite.txt"))), ["1", "2", "3"])

@@ -175,8 +175,8 @@ class StandIn(WithStandIn):
 
     def test_what_is_not_there_is_told(self) -> None:
         self.expect(["none"], 2, "", "suite: there is no none\n")
-        for words in [], ["-j", "0", "."], ["-j", "x", "."], ["--timeout", "-1", "."], ["--fast", "."]:
-            ran = self.call(SUITE, *words)
+        for words in "", "-j 0 .", "-j x .", "--timeout -1 .", "--fast .":
+            ran = self.call(SUITE, *words.split())
             self.assertEqual((ran.stdout, ran.returncode), ("", 2))
             self.assertIn("usage: tools/suite [-j N] [--junit FILE]", ran.stderr)
 
