@@ -123,8 +123,11 @@ class Sweep(trials.Trials):
         mode = self.before.wishes_of(self.script).mode
         if log:
             self.base = Base(log, self.runs.folder / log, mode)
-            with plain_files.opened(self.base.file) as kept:
-                self.check_size(pathlib.Path(log), kept)
+            try:
+                with plain_files.opened(self.base.file) as kept:
+                    self.check_size(pathlib.Path(log), kept)
+            except OSError as fault:
+                raise suite_tests.unread(log, fault) from fault
             return
         first = self.write(0, point)
         self.before.make_for(first)
