@@ -3,6 +3,7 @@ hand, by docs/SUITES.md and by the documents of these formats."""
 import subprocess
 import sys
 import time
+from typing import Dict, Tuple
 
 from tests.suite_projects import EXPECT, NO_VERDICT, SUITE, WithStandIn, is_ended, without_seconds
 
@@ -66,12 +67,81 @@ not ok 3 - tests/refused.resc
 """
 
 
+A = "[0.000001] m0/uart: a\n"
+B = "[0.000002] m0/uart: b\n"
+PASS = "[0.000100] pause m0/fin: pass\n"
+FAIL = "[0.000200] pause m0/fin: fail 7\n"
+LATER = A.replace("1]", "5]")
+APART = "[0.000001] m1/uart: b\n"
+
+# Tests by their names: the script, the kept log, what is printed, and the cause that is told after the result.
+Row = Tuple[str, str, str, str]
+PASSED: Dict[str, Row] = {
+    "equal": ("# suite: exact\n", f"{A}1\n", f"{A}1\n", ""),
+    "devices are apart without times": ("#suite:  notimes \n", f"{A}{APART}{B}{PASS}", f"{APART}{LATER}{B}{PASS}", ""),
+    "verdict alone": ("\n# suite: verdict\n", "", f"[0.000001] m0/uart: z\n{PASS}", ""),
+    "failure that was kept": ("", FAIL, FAIL, ""),
+}
+FAILED: Dict[str, Row] = {
+    "end of a line": ("", A[:-1], A, "the log differs"),
+    "failure after a pass": ("# suite: verdict\n", PASS + FAIL, PASS + FAIL, f"a test has failed: {FAIL[:-1]}"),
+    "no verdict, exact": ("# suite: exact\n", A + PASS, A, "no verdict: it hangs?"),
+    "no verdict, notimes": ("# suite: notimes\n", A + PASS, A, "no verdict: it hangs?"),
+    "other times": ("", A, LATER, "the times alone differ: `# suite: notimes` leaves them out"),
+    "uart says so": ("# suite: verdict\n", "x\n", f"[0.000100] m0/uart: {PASS[11:]}", "no verdict: it hangs?"),
+}
+ERRORS: Dict[str, Row] = {
+    "empty log": ("", "", "", "{path}.log is empty, so it tests nothing: --update keeps another one"),
+    "two kinds": (
+        "# suite: exact\n# suite: verdict\n",
+        "1\n",
+        "1\n",
+        "{path}.resc: `# suite:` names exact and verdict, and takes one of them",
+    ),
+    "wrong word": (
+        "# a test\n# suite: fast\n",
+        "1\n",
+        "1\n",
+        "{path}.resc:2: `# suite:` says exact, notimes, verdict or `after SCRIPT`, and not fast",
+    ),
+}
+# What lab could not do is no result: the causes of its statuses.
+STATUSES = {
+    1: "memory ran out",
+    2: "its words are wrong",
+    3: "error: {path}.resc:1: S1 unknown command",
+    4: "a file could not be read, x/b ({path}.resc:2)",
+    5: "its output could not be written",
+    6: "a snapshot could not be kept or read, x/b ({path}.resc:2)",
+}
+
+
 class StandIn(WithStandIn):
     """Tests of each kind, as they end, and what is told of them."""
 
-    def test_exact_logs_are_equal(self) -> None:
-        self.make("a", "[0.000001] m0/uart: a\n1\n", "[0.000001] m0/uart: a\n1\n", "# suite: exact\n")
-        self.finds("passed  T s  a.resc", 0)
+    def test_results(self) -> None:
+        """The tests of a table are those of a folder, all of which end so."""
+        for result, table, status in ("passed", PASSED, 0), ("failed", FAILED, 1), ("error", ERRORS, 2):
+            lines = []
+            for name, (says, kept, prints, cause) in table.items():
+                path = f"{result}/{name}"
+                self.make(path, kept, prints, says)
+                lines.append(f"{result}  T s  {path}.resc{cause and ': '}{cause.format(path=path)}\n")
+            counts = len(table) if status == 0 else 0
+            self.expect([result], status, f"{''.join(lines)}{counts} passed, {len(table) - counts} failed\n")
+
+    def test_what_lab_could_not_do_is_no_result(self) -> None:
+        lines = []
+        for status, cause in STATUSES.items():
+            path = f"tests/{status}"
+            error = f"error: {path}.resc:1: S1 unknown command\n"
+            self.make(path, error, error, f"\n{'include' if status == 4 else 'Load'} @x/b\n", status)
+            lines.append(f"error  T s  {path}.resc: lab ended with {status}: {cause.format(path=path)}\n")
+        self.expect(["tests"], 2, f"{''.join(lines)}0 passed, 6 failed\n")
+
+    def test_signs_of_tap_are_escaped(self) -> None:
+        self.make("a#b\\c", "1\n", "1\n")
+        self.assertIn("ok 1 - a\\#b\\\\c.resc\n", self.call(SUITE, "--tap", ".").stdout)
 
     def test_results_are_told_though_they_cannot_be_written(self) -> None:
         self.make("a", "1\n", "1\n")
@@ -88,62 +158,12 @@ class StandIn(WithStandIn):
         self.assertEqual(self.call("sh", "-c", f'umask 022; "{EXPECT}" --bless a.resc a.log').returncode, 0)
         self.assertEqual((self.folder / "a.log").stat().st_mode & 0o777, 0o644)
 
-    def test_other_times_are_told(self) -> None:
-        self.make("a", "[0.000001] m0/uart: a\n", "[0.000002] m0/uart: a\n")
-        self.finds("failed  T s  a.resc: the times alone differ: `# suite: notimes` leaves them out", 1)
-
-    def test_an_end_of_line_counts(self) -> None:
-        self.make("a", "[0.000001] m0/uart: a", "[0.000001] m0/uart: a\n")
-        self.finds("failed  T s  a.resc: the log differs", 1)
-
-    def test_devices_are_apart_without_times(self) -> None:
-        kept = "[0.000001] m0/uart: a\n[0.000002] m1/uart: b\n[0.000003] m0/uart: c\n[0.000100] pause m0/fin: pass\n"
-        run = "[0.000001] m1/uart: b\n[0.000005] m0/uart: a\n[0.000005] m0/uart: c\n[0.000200] pause m0/fin: pass\n"
-        self.make("a", kept, run, "#suite:  notimes \n")
-        self.finds("passed  T s  a.resc", 0)
-
     def test_a_device_keeps_its_order_without_times(self) -> None:
         kept = "[0.000001] m0/uart: a\n[0.000002] m0/uart: b\n"
         self.make("a", kept, "[0.000001] m0/uart: b\n[0.000002] m0/uart: a\n", "# suite: notimes\n")
         self.finds("failed  T s  a.resc: the log differs", 1)
         shown = self.call(SUITE, ".").stderr
         self.assertIn("\n  -m0/uart: a\n   m0/uart: b\n  +m0/uart: a\n", shown)
-
-    def test_a_verdict_alone_counts(self) -> None:
-        self.make("a", "", "[0.000001] m0/uart: z\n[0.000100] pause m0/fin: pass\n", "\n# suite: verdict\n")
-        self.finds("passed  T s  a.resc", 0)
-
-    def test_a_failure_after_a_pass_counts(self) -> None:
-        run = "[0.000100] pause m0/fin: pass\n[0.000200] pause m0/fin: fail 7\n"
-        self.make("a", run, run, "# suite: verdict\n")
-        self.finds("failed  T s  a.resc: a test has failed: [0.000200] pause m0/fin: fail 7", 1)
-
-    def test_a_failure_that_was_kept_is_wanted(self) -> None:
-        self.make("a", "[0.000200] pause m0/fin: fail 7\n", "[0.000200] pause m0/fin: fail 7\n")
-        self.finds("passed  T s  a.resc", 0)
-
-    def test_a_uart_says_no_verdict(self) -> None:
-        self.make("a", "x\n", "[0.000100] m0/uart: pause m0/fin: pass\n", "# suite: verdict\n")
-        self.finds("failed  T s  a.resc: no verdict: it hangs?", 1)
-
-    def test_a_verdict_of_the_log_is_wanted(self) -> None:
-        kept = "[0.000001] m0/uart: a\n[0.000100] pause m0/fin: pass\n"
-        for mode in "exact", "notimes":
-            self.make("a", kept, "[0.000001] m0/uart: a\n", f"# suite: {mode}\n")
-            self.finds("failed  T s  a.resc: no verdict: it hangs?", 1)
-
-    def test_what_lab_could_not_do_is_no_result(self) -> None:
-        for status, cause in {
-            1: "memory ran out",
-            2: "its words are wrong",
-            3: "error: a.resc:1: S1 unknown command",
-            4: "a file could not be read, x/b (a.resc:2)",
-            5: "its output could not be written",
-            6: "a snapshot could not be kept or read, x/b (a.resc:2)",
-        }.items():
-            error = "error: a.resc:1: S1 unknown command\n"
-            self.make("a", error, error, "\ninclude @x/b\n" if status == 4 else "\nLoad @x/b\n", status)
-            self.finds(f"error  T s  a.resc: lab ended with {status}: {cause}", 2)
 
     def test_a_signal_is_told(self) -> None:
         self.make("a", "1\n", "1\n")
@@ -156,17 +176,6 @@ class StandIn(WithStandIn):
         line = "failed  T s  a.resc: not done after 1.5 s\n"
         self.expect(["--timeout", "1.5", "a.resc"], 1, f"{line}0 passed, 1 failed\n")
         self.assertTrue(is_ended(int(self.read("a.resc.waits"))))
-
-    def test_wrong_lines_are_told(self) -> None:
-        self.make("a", "1\n", "1\n", "# a test\n# suite: fast\n")
-        says = "`# suite:` says exact, notimes, verdict or `after SCRIPT`, and not fast"
-        self.finds(f"error  T s  a.resc: a.resc:2: {says}", 2)
-        self.make("a", "1\n", "1\n", "# suite: exact\n# suite: verdict\n")
-        self.finds("error  T s  a.resc: a.resc: `# suite:` names exact and verdict, and takes one of them", 2)
-
-    def test_an_empty_log_tests_nothing(self) -> None:
-        self.make("a", "", "")
-        self.finds("error  T s  a.resc: a.log is empty, so it tests nothing: --update keeps another one", 2)
 
     def test_a_script_that_is_named_needs_a_log(self) -> None:
         self.make("a", None, "1\n")
@@ -248,11 +257,6 @@ class StandIn(WithStandIn):
     def test_results_are_told_as_tap(self) -> None:
         self.make_three()
         self.expect(["--tap", "tests"], 2, TAP, "")
-
-    def test_signs_of_tap_are_escaped(self) -> None:
-        self.make("a#b\\c", "1\n", "1\n")
-        ran = self.call(SUITE, "--tap", ".")
-        self.assertIn("ok 1 - a\\#b\\\\c.resc\n", ran.stdout)
 
     def test_a_suite_that_is_interrupted_ends_its_runs(self) -> None:
         self.make("a", "1\n", "1\n")
