@@ -1,18 +1,18 @@
 """Runs tests side by side: scripts whose logs were kept.
 
     tools/suite [-j N] [--junit FILE] [--tap] [--timeout S] [--most BYTES] [--update] FOLDER or SCRIPT ..
-    tools/suite --shard SHARE [--times FILE] [-j N] [--junit FILE] .. FOLDER or SCRIPT ..
+    tools/suite --shard PART [--times FILE] [-j N] [--junit FILE] .. FOLDER or SCRIPT ..
     tools/suite --merge [--junit FILE] RESULTS ..
 
-  -j N           tries N tests at a time; as many as there are processors if it is not given
-  --junit FILE   writes the results as JUnit XML too, with what differs and the last 20 lines of each test
-  --tap          prints TAP 14 in place of the lines below
-  --timeout S    ends a test that takes longer than S seconds; 300 if it is not given, and 1000000 at most
-  --most BYTES   ends a test that prints more; 100000000 if it is not given
-  --update       keeps what each test prints as its log
-  --shard SHARE  tries a share of the tests, as 2/3: the second of three; each test is in one of them
-  --times FILE   makes shares that take equal times, by the results of an earlier run (--junit)
-  --merge        makes the results of all shards one, tells them, and ends as one suite
+  -j N          tries N tests at a time; as many as there are processors if it is not given
+  --junit FILE  writes the results as JUnit XML too, with what differs and the last 20 lines of each test
+  --tap         prints TAP 14 in place of the lines below
+  --timeout S   ends a test that takes longer than S seconds; 300 if it is not given, and 1000000 at most
+  --most BYTES  ends a test that prints more; 100000000 if it is not given
+  --update      keeps what each test prints as its log
+  --shard PART  tries a share of the tests, as 2/3: the second of three; each test is in one of them
+  --times FILE  makes shares that take equal times, by the results of an earlier run (--junit)
+  --merge       makes the results of all shards one, tells them, and ends as one suite
 
 Each X.resc with an X.log beside it is a test, in a folder and in the folders in it. All run in the folder in which
 tools/suite is called, the project's: paths in scripts are taken from there. Comment lines in a script say more:

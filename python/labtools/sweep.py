@@ -1,6 +1,6 @@
 """Runs a script over many values of its variables, as the tests of one suite.
 
-    tools/sweep [-j N] [--log FILE] [--junit FILE] [--shard SHARE] [--timeout S] [--most BYTES] SCRIPT NAME=VALUES ..
+    tools/sweep [-j N] [--log FILE] [--junit FILE] [--shard PART] [--timeout S] [--most BYTES] SCRIPT NAME=VALUES ..
 
   NAME=1..1000      the variable $NAME of the script has each of these numbers; SCRIPT has a line `$NAME?=VALUE` for it
   NAME=0..1000..50  each 50th of them
@@ -8,7 +8,7 @@
   -j N              runs N at a time; as many as there are processors if it is not given
   --log FILE        compares each log with this one, as a line `# suite:` of the script says: exact, notimes or verdict
   --junit FILE      writes the results as JUnit XML, a test for each value
-  --shard SHARE     runs a share of them, as 2/3, and the first of all; `tools/suite --merge` makes the results one
+  --shard PART      runs a share of them, as 2/3, and the first of all; `tools/suite --merge` makes the results one
   --timeout S       ends a run that takes longer than S seconds; 300 if it is not given, and 1000000 at most
   --most BYTES      ends a run that prints more; 100000000 if it is not given
 

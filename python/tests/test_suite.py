@@ -178,11 +178,14 @@ class Servers(WithLab):
         super().setUp()
         self.environment["LAB_HOME"] = str(TOP)
 
+    def pass_over(self, missing: str) -> None:
+        self.skipTest(f"{type(self).__name__}.{self._testMethodName}, without {missing}")
+
     def needs(self, *programs: str) -> None:
         """Passes the test over where a program is not installed."""
         missing = [it for it in programs if not shutil.which(it)]
         if missing:
-            self.skipTest(f"{self.id().partition('.')[2]}, without {missing[0]}")
+            self.pass_over(missing[0])
 
     def try_lines(self, lines: str) -> None:
         """Runs the lines of a job, which end with 1 since a test fails, and have written their results."""
@@ -195,7 +198,7 @@ class Servers(WithLab):
         try:
             import yaml
         except ImportError:
-            self.skipTest(f"{self.id().partition('.')[2]}, without yaml of Python")
+            self.pass_over("yaml of Python")
         # PyYAML takes the key `on` of GitHub for a truth.
         return yaml.load(self.read(path), Loader=yaml.BaseLoader)
 

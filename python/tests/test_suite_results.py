@@ -123,7 +123,7 @@ class StandIn(WithStandIn):
         """The tests of a table are those of a folder, all of which end so."""
         for result, table, status in ("passed", PASSED, 0), ("failed", FAILED, 1), ("error", ERRORS, 2):
             lines = []
-            for name, (says, kept, prints, cause) in table.items():
+            for name, (says, kept, prints, cause) in sorted(table.items()):
                 path = f"{result}/{name}"
                 self.make(path, kept, prints, says)
                 lines.append(f"{result}  T s  {path}.resc{cause and ': '}{cause.format(path=path)}\n")

@@ -1,9 +1,10 @@
 """A script over many values of its variables, by tools/sweep."""
 import subprocess
+import sys
 from typing import Dict, Tuple
 
 from labtools.common.program import TOP
-from tests.suite_projects import SUITE, WithLab, without_seconds
+from tests.suite_projects import HEED, SUITE, WithLab, wait_for, without_seconds
 
 SWEEP = str(TOP / "tools/sweep")
 
@@ -89,6 +90,16 @@ class Sweeps(WithLab):
         status, lines, told = self.told("b/a.resc", "n=4,8")
         self.assertEqual((status, told.splitlines()[0]), (1, "sweep: b/boot.resc is run first"))
         self.assertIn("the first log that differs from that of n=4: n=8\n", lines)
+
+    def test_a_signal_ends_a_sweep_which_leaves_nothing(self) -> None:
+        (self.folder / "room").mkdir()
+        self.environment["TMPDIR"] = str(self.folder / "room")
+        words = [sys.executable, "-c", HEED, sys.executable, SWEEP, "demo/sweep/s.resc", "phase=1..20000"]
+        with subprocess.Popen(words, cwd=self.folder, env=self.environment, stdout=subprocess.DEVNULL) as sweep:
+            wait_for(lambda: bool(list((self.folder / "room").glob("*/900.resc"))))
+            sweep.terminate()
+            self.assertEqual(sweep.wait(240), 130)
+        self.assertEqual(list((self.folder / "room").iterdir()), [])
 
     def test_wrong_words_are_told(self) -> None:
         self.write("a.resc", SCRIPT)
