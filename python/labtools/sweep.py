@@ -58,6 +58,11 @@ def name_of(point: Point) -> str:
     return ",".join(f"{name}={value}" for name, value in point)
 
 
+def is_word(text: str) -> bool:
+    """Whether a text can stand in a script as one word."""
+    return WORD.fullmatch(text) is not None and text.isprintable()
+
+
 def values_of(word: str) -> Tuple[str, List[str]]:
     """Reads NAME=VALUES."""
     name, sign, text = word.partition("=")
@@ -66,7 +71,7 @@ def values_of(word: str) -> Tuple[str, List[str]]:
     numbers = RANGE.fullmatch(text)
     if not numbers:
         values = text.split(",")
-        if not all(WORD.fullmatch(it) for it in values):
+        if not all(map(is_word, values)):
             raise Undone(f"{word}: a value is a word without blanks, quotes and $")
         return name, list(dict.fromkeys(values))
     first, last, step = int(numbers[1]), int(numbers[2]), int(numbers[3] or 1)
@@ -132,6 +137,8 @@ class Sweep(trials.Trials):
         first = self.write(0, point)
         self.before.make_for(first)
         with self.runs.run(first) as ran:
+            if ran.status == 0 and not kept_logs.size_of(ran.log):
+                raise Undone(f"{name_of(point)} prints nothing, so there is nothing to compare")
             plain_files.replace(self.base.file, ran.log)
             mode = suite_tests.VERDICT if kept_logs.has_verdict(ran.log) else mode
         self.base = Base(name_of(point), self.base.file, mode)
@@ -199,13 +206,14 @@ def sweep(session: sessions.Session) -> int:
     given = session.given
     script, words = os.path.normpath(given.paths[0]), given.paths[1:]
     points = dict(enumerate(points_of(words)))
-    if not WORD.fullmatch(script):
-        raise Undone(f"{script}: a path in a script has no blanks, quotes or $")
+    if not is_word(script):
+        raise Undone(f"{script}: a path in a script has no blanks, quotes or $, and is UTF-8")
     check_names(script, points[0])
     swept = Sweep(session.runs(), script, session.room.path)
     swept.begin(given.log, points[0])
-    share = shards.share_of(given.shard, {f"{it:06}": () for it in points}, {}) if given.shard else None
-    own = {int(it): points[int(it)] for it in share.tests} if share else points
+    keys = {f"{number:06} {script}[{name_of(point)}]": number for number, point in points.items()}
+    share = shards.share_of(given.shard, dict.fromkeys(keys, ()), {}) if given.shard else None
+    own = {keys[it]: points[keys[it]] for it in share.tests} if share else points
     lines = sessions.Lines(are_all=False)
     outcomes: List[Outcome] = []
     table: Dict[Tuple[str, str], List[Point]] = {}

@@ -103,6 +103,7 @@ class Sweeps(WithLab):
 
     def test_wrong_words_are_told(self) -> None:
         self.write("a.resc", SCRIPT)
+        self.write("quiet.resc", "$n?=0\n")
         self.write("empty.log", "")
         faults: Dict[str, str] = {
             "a.resc n": "n is not NAME=VALUES, with the name of a variable",
@@ -112,6 +113,9 @@ class Sweeps(WithLab):
             "a.resc n=2..1": "n=2..1 has no numbers, or more than 100000",
             "a.resc n=1..100001": "n=1..100001 has no numbers, or more than 100000",
             "a.resc n=1..1000 m=1..1000": "these are 1000000 runs, and at most 100000 are made",
+            "quiet.resc n=1": "n=1 prints nothing, so there is nothing to compare",
+            "a\udcff.resc n=1": "a\\xff.resc: a path in a script has no blanks, quotes or $, and is UTF-8",
+            "a.resc n=\udcff": "n=\\xff: a value is a word without blanks, quotes and $",
             "a.resc k=1": "no line of a.resc, or of a file that it includes, has $k",
             "none.resc n=1": "none.resc cannot be read: No such file or directory",
             "--log none.log a.resc n=1": "none.log cannot be read: No such file or directory",
