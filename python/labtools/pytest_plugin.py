@@ -6,7 +6,9 @@ docs/SUITES.md ("pytest") shows what it does. Installed by pip it is there by it
 import argparse
 import os
 import pathlib
+import signal
 import sys
+import threading
 from typing import Any, Callable, Dict, Generator, Iterable, List, Optional, Sequence, Tuple, TypeVar, Union, cast
 
 import pytest
@@ -66,11 +68,26 @@ class Project:
                 raise pytest.UsageError(str(fault)) from fault
             seconds = float(self.config.getoption("--lab-timeout"))
             runs = lab_runs.Runs(program, self.folder, seconds, sessions.MOST_PRINTED)
+            end_by_signals(runs)
             self.made = trials.Trials(runs, lambda text: print(f"suite: {shown(text)}", file=sys.stderr))
         return self.made
 
 
 PROJECT = pytest.StashKey[Project]()
+
+
+def end_by_signals(runs: lab_runs.Runs) -> None:
+    """From now on a signal that ends pytest ends its runs before. Ctrl-C is an exception, which does so by itself."""
+
+    def end(number: int, _: object) -> None:
+        runs.end_all()
+        signal.signal(number, signal.SIG_DFL)
+        os.kill(os.getpid(), number)
+
+    if threading.current_thread() is threading.main_thread():
+        for number in signal.SIGTERM, signal.SIGHUP:
+            if signal.getsignal(number) is signal.SIG_DFL:
+                signal.signal(number, end)
 
 
 def pytest_addoption(parser: pytest.Parser) -> None:

@@ -1,11 +1,13 @@
 """The plugin of pytest, as pytest runs it in a project of its own. It is passed over where pytest is not installed."""
 import re
 import shutil
+import signal
 import subprocess
+import sys
 from typing import Dict, List
 
 from labtools.common.program import TOP
-from tests.suite_projects import SUITE, WithLab
+from tests.suite_projects import HEED, STAND_IN, SUITE, WithLab, is_ended, wait_for
 
 PYTEST = "/usr/bin/pytest"
 
@@ -164,6 +166,19 @@ class Plugin(WithLab):
             "= 5 failed in ",
         ):
             self.assertIn(wanted, told)
+
+    def test_a_signal_ends_the_runs(self) -> None:
+        self.write("stand_in", STAND_IN)
+        (self.folder / "stand_in").chmod(0o755)
+        self.environment["LAB"] = str(self.folder / "stand_in")
+        self.write("a.resc.waits", "")
+        self.write("tests/test_lab.py", "def test_it(lab):\n    lab.run('a.resc')\n")
+        words = [sys.executable, "-c", HEED, PYTEST, "-p", "labtools.pytest_plugin", "tests"]
+        with subprocess.Popen(words, cwd=self.folder, env=self.environment, stdout=subprocess.DEVNULL) as pytest:
+            wait_for(lambda: bool(self.read("a.resc.waits")))
+            pytest.terminate()
+            self.assertEqual(pytest.wait(240), -signal.SIGTERM)
+        wait_for(lambda: is_ended(int(self.read("a.resc.waits"))))
 
     def test_workers_of_xdist_share_the_tests(self) -> None:
         if not self.has_xdist():
