@@ -7,7 +7,7 @@ import re
 import subprocess
 import tempfile
 from collections import Counter, deque
-from typing import BinaryIO, Deque, Iterator, List, Optional, Tuple
+from typing import BinaryIO, Deque, Iterator, List, Optional, Tuple, cast
 
 from labtools.logs import folded
 from labtools.logs import log_lines
@@ -82,12 +82,12 @@ def without_times(log: BinaryIO) -> BinaryIO:
     has printed, such as the answer of `cpu PC`, comes first."""
     with tempfile.TemporaryFile() as by_device:
         words = ["sort", "-s", "-t", "\t", "-k", "1,1", "-S", "16M", "-T", tempfile.gettempdir()]
-        fed = {"stdin": subprocess.PIPE, "stdout": by_device, "env": {**os.environ, "LC_ALL": "C"}}
-        with subprocess.Popen(words, **fed) as process:
+        plain = {**os.environ, "LC_ALL": "C"}
+        with subprocess.Popen(words, stdin=subprocess.PIPE, stdout=by_device, env=plain) as process:
             assert process.stdin is not None
             process.stdin.writelines(map(by_its_device, lines_in(log)))
         os.lseek(by_device.fileno(), 0, os.SEEK_SET)
-        bare = tempfile.TemporaryFile()
+        bare = cast(BinaryIO, tempfile.TemporaryFile())
         cut = subprocess.run(["cut", "-f", "2-"], stdin=by_device, stdout=bare, check=False)
     if process.returncode != 0 or cut.returncode != 0:
         raise OSError("a log could not be sorted by its devices")

@@ -9,7 +9,7 @@ import subprocess
 import tempfile
 import threading
 import time
-from typing import BinaryIO, Iterator, Optional, Set
+from typing import BinaryIO, Iterator, Optional, Sequence, Set, cast
 
 # What has ended a run that did not end by itself.
 TIME, SIZE = "time", "size"
@@ -43,26 +43,28 @@ class Runs:
         self.is_ended = False
 
     @contextlib.contextmanager
-    def run(self, script: str) -> Iterator[Ran]:
-        """Runs a script; its log may be read as long as this is open. An OSError says that the program cannot be
-        started, or that there is no room for what it prints."""
+    def run(self, script: str, words: Sequence[str] = (), seconds: Optional[float] = None) -> Iterator[Ran]:
+        """Runs a script, with further words, and for other seconds where these are given; its log may be read as long
+        as this is open. An OSError says that the program cannot be started, or that there is no room for what it
+        prints."""
         begun = time.monotonic()
-        with tempfile.TemporaryFile() as log:
-            process = self.start(script)
+        seconds = self.seconds if seconds is None else seconds
+        with cast(BinaryIO, tempfile.TemporaryFile()) as log:
+            process = self.start([*words, "--", script])
             try:
-                ended_by = self.wait(process, log, begun + self.seconds)
+                ended_by = self.wait(process, log, begun + seconds)
             finally:
                 self.end(process)
             status = None if ended_by else process.returncode
             yield Ran(status, ended_by, log, time.monotonic() - begun)
 
-    def start(self, script: str) -> "subprocess.Popen[bytes]":
+    def start(self, words: Sequence[str]) -> "subprocess.Popen[bytes]":
         """Starts a process with a group of its own, so that what it starts is ended with it."""
         with self.lock:
             if self.is_ended:
                 raise InterruptedError("no run is started any more")
             process = subprocess.Popen(
-                [self.program, "run", "--", script],
+                [self.program, "run", *words],
                 cwd=str(self.folder),
                 stdin=subprocess.DEVNULL,
                 stdout=subprocess.PIPE,

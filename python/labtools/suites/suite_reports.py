@@ -2,7 +2,8 @@
 import dataclasses
 import json
 import pathlib
-from typing import Iterator, List, Sequence, TextIO
+import re
+from typing import Iterator, List, Mapping, Sequence, TextIO
 from xml.etree import ElementTree
 
 from labtools.common.escapes import shown, shown_lines
@@ -11,12 +12,18 @@ from labtools.suites import suite_tests
 
 @dataclasses.dataclass(frozen=True)
 class Outcome:
-    """A test, what was found of it, the last lines that it has printed, and how long it took."""
+    """A test, what was found of it, the last lines that it has printed, and how long it took. The label tells tests of
+    one script apart."""
 
     script: str
     finding: suite_tests.Finding
     last_lines: str
     seconds: float
+    label: str = ""
+
+    @property
+    def name(self) -> str:
+        return f"{self.script}{self.label}"
 
     @property
     def is_passed(self) -> bool:
@@ -35,27 +42,53 @@ def in_words(outcome: Outcome) -> str:
     return shown_lines("\n".join(part for part in parts if part))
 
 
-def junit_of(outcomes: Sequence[Outcome]) -> ElementTree.Element:
-    """The outcomes as a document of JUnit: one suite, and a case for each test. A test that could not be tried is an
-    error, and one that has failed a failure."""
+def document_of(cases: Sequence[ElementTree.Element], said: Mapping[str, str]) -> ElementTree.Element:
+    """A document of JUnit: one suite with these cases, and with what else is said of it."""
     counts = {
-        "tests": str(len(outcomes)),
-        "failures": str(sum(not it.is_passed and not it.is_error for it in outcomes)),
-        "errors": str(sum(it.is_error for it in outcomes)),
-        "time": f"{sum(it.seconds for it in outcomes):.3f}",
+        "tests": str(len(cases)),
+        "failures": str(sum(it.find("failure") is not None for it in cases)),
+        "errors": str(sum(it.find("error") is not None for it in cases)),
+        "time": f"{sum(map(seconds_of, cases)):.3f}",
     }
+    skipped = str(sum(it.find("skipped") is not None for it in cases))
     suites = ElementTree.Element("testsuites", counts)
-    suite = ElementTree.SubElement(suites, "testsuite", {"name": "lab", **counts, "skipped": "0"})
-    for outcome in outcomes:
-        suite.append(case_of(outcome))
+    suite = ElementTree.SubElement(suites, "testsuite", {"name": "lab", **counts, "skipped": skipped})
+    if said:
+        properties = ElementTree.SubElement(suite, "properties")
+        for name, value in said.items():
+            ElementTree.SubElement(properties, "property", {"name": name, "value": value})
+    suite.extend(cases)
     return suites
+
+
+def seconds_of(case: ElementTree.Element) -> float:
+    """The time of a case, and 0 where it has none."""
+    try:
+        return float(case.get("time", "0"))
+    except ValueError:
+        return 0.0
+
+
+def outcome_of(case: ElementTree.Element) -> Outcome:
+    """What a case says, as far as a line tells it. Others than tools/suite may have written it, as pytest has."""
+    name = f"{case.get('classname', '')}.{case.get('name', '')}"
+    script = case.get("file", name)
+    # The brackets at the end of a name are its label.
+    label = re.search(r"\[.*\]$", case.get("name", "")) if "file" in case.attrib else None
+    finding = suite_tests.Finding(suite_tests.PASSED)
+    for tag, result in ("failure", suite_tests.FAILED), ("error", suite_tests.ERROR):
+        found = case.find(tag)
+        if found is not None:
+            finding = suite_tests.Finding(result, tag, found.get("message", "").partition("\n")[0])
+    return Outcome(script, finding, "", seconds_of(case), label[0] if label else "")
 
 
 def case_of(outcome: Outcome) -> ElementTree.Element:
     """A test as a case of JUnit. Its class is its folder, by which servers group cases."""
     path = pathlib.PurePosixPath(outcome.script)
     folder = ".".join(part for part in path.parent.parts if part not in ("/", ".", ".."))
-    words = {"classname": folder or "lab", "name": path.stem, "file": outcome.script, "time": f"{outcome.seconds:.3f}"}
+    name, seconds = path.stem + outcome.label, f"{outcome.seconds:.3f}"
+    words = {"classname": folder or "lab", "name": name, "file": outcome.script, "time": seconds}
     case = ElementTree.Element("testcase", {key: shown(word) for key, word in words.items()})
     if not outcome.is_passed:
         finding = outcome.finding
@@ -66,10 +99,14 @@ def case_of(outcome: Outcome) -> ElementTree.Element:
     return case
 
 
-def write_junit(path: pathlib.Path, outcomes: Sequence[Outcome]) -> None:
-    """Writes the outcomes as JUnit XML."""
-    tree = ElementTree.ElementTree(junit_of(outcomes))
-    tree.write(str(path), encoding="utf-8", xml_declaration=True)
+def write_junit(path: pathlib.Path, outcomes: Sequence[Outcome], said: Mapping[str, str]) -> None:
+    """Writes the outcomes as JUnit XML. A test that could not be tried is an error, and one that has failed a
+    failure."""
+    write_document(path, document_of(list(map(case_of, outcomes)), said))
+
+
+def write_document(path: pathlib.Path, document: ElementTree.Element) -> None:
+    ElementTree.ElementTree(document).write(str(path), encoding="utf-8", xml_declaration=True)
 
 
 class Tap:
@@ -83,7 +120,7 @@ class Tap:
     def tell(self, outcome: Outcome) -> None:
         self.number += 1
         told = "ok" if outcome.is_passed else "not ok"
-        name = shown(outcome.script).replace("\\", "\\\\").replace("#", "\\#")
+        name = shown(outcome.name).replace("\\", "\\\\").replace("#", "\\#")
         lines = [f"{told} {self.number} - {name}", *("  " + it for it in diagnostics(outcome))]
         print("\n".join(lines), file=self.output, flush=True)
 

@@ -95,10 +95,11 @@ def short(text: str, most: int = 200) -> str:
     return text if len(text) <= most else f"{text[:most]} .."
 
 
-def fault_of(ran: lab_runs.Ran, script: str, runs: lab_runs.Runs) -> Optional[Finding]:
-    """What is wrong with a run of a script that is not done, whatever it has printed."""
+def fault_of(ran: lab_runs.Ran, script: str, runs: lab_runs.Runs, seconds: Optional[float] = None) -> Optional[Finding]:
+    """What is wrong with a run of a script that is not done, whatever it has printed. It had these seconds, or those of
+    all runs."""
     if ran.ended_by == lab_runs.TIME:
-        return Finding(FAILED, "timeout", f"not done after {runs.seconds:g} s")
+        return Finding(FAILED, "timeout", f"not done after {runs.seconds if seconds is None else seconds:g} s")
     if ran.ended_by == lab_runs.SIZE:
         polls = ": it polls where nothing stands?" if kept_logs.polls_nothing(ran.log) else ""
         return Finding(FAILED, "size", f"printed more than {runs.most} bytes{polls}")
