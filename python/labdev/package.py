@@ -218,6 +218,7 @@ def make_debian(path: pathlib.Path, tree: Tree) -> None:
         root = pathlib.Path(room) / "root"
         put(root, tree)
         put(root, {"DEBIAN/control": Entry(control(tree)), "DEBIAN/md5sums": Entry(md5sums(tree))})
+        put(root, {"DEBIAN/prerm": file_of(TOP / "packaging/prerm")})
         for folder in [root, *(it for it in root.rglob("*") if it.is_dir() and not it.is_symlink())]:
             folder.chmod(0o755)
         environment = {**os.environ, "SOURCE_DATE_EPOCH": str(DATE)}

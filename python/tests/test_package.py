@@ -328,6 +328,17 @@ class Packages(unittest.TestCase):
             self.assertIn(f"{line}\n", said.stdout)
         self.assertIn("\nRecommends: python3 (>= 3.8), python3-pyelftools\n", said.stdout)
 
+    def test_the_debian_package_goes_with_what_python_has_written_beside_its_tools(self) -> None:
+        shutil.copytree(self.place("Debian").files, self.room / "removed/usr/lib/lab", symlinks=True)
+        written = self.room / "removed/usr/lib/lab/python/labtools/common/__pycache__"
+        written.mkdir(exist_ok=True)
+        (written / "program.cpython-311.pyc").touch()
+        subprocess.run(["dpkg-deb", "-e", self.made["Debian"], self.room / "control"], check=True)
+        env = {**os.environ, "DPKG_ROOT": str(self.room / "removed")}
+        subprocess.run([self.room / "control/prerm", "remove"], check=True, env=env)
+        self.assertEqual(list((self.room / "removed").rglob("__pycache__")), [])
+        self.assertTrue((written.parent / "program.py").is_file())
+
     def test_each_command_of_the_debian_package_has_a_page_and_completion(self) -> None:
         self.place("Debian")
         system = self.room / "Debian/usr"
