@@ -1,5 +1,6 @@
 """Shares of a suite for several machines: each test is in one of them, and their results are made one."""
 import random
+import re
 import unittest
 from typing import Dict, List
 from xml.etree import ElementTree
@@ -73,7 +74,8 @@ class Shards(WithStandIn):
         return names
 
     def test_shares_are_made_one(self) -> None:
-        """Two tests come after one script, and are the first group as the longest; then the others by name."""
+        """Two tests come after one script, and are the first group as the longest; then the others by name. Where the
+        first test takes nine times as long as each other, it is a share by itself."""
         self.assertEqual(self.shard(1, 3, 1), ["tests/d.resc", "tests/e.resc"])
         self.assertEqual(self.shard(2, 3, 0), ["tests/a.resc", "tests/c.resc"])
         self.assertEqual(self.shard(3, 3, 0), ["tests/b.resc"])
@@ -83,8 +85,10 @@ class Shards(WithStandIn):
         suite = ElementTree.parse(self.folder / "all.xml").getroot()
         self.assertEqual([suite.get(it) for it in ("tests", "failures", "errors")], ["5", "1", "0"])
         self.assertIn("\n+2\n", suite.findtext(".//failure", ""))
-        for number in 1, 2, 3:
-            self.shard(number, 3, number == 1, "--times", "all.xml")
+        timed = re.sub(r'time="[^"]*"', 'time="1.000"', self.read("all.xml"))
+        self.write("all.xml", timed.replace('a.resc" time="1.000"', 'a.resc" time="9.000"'))
+        shares = [self.shard(number, 3, status, "--times", "all.xml") for number, status in ((1, 0), (2, 1), (3, 0))]
+        self.assertEqual(shares, [[f"tests/{it}.resc" for it in names] for names in ("a", "de", "bc")])
 
     def test_a_share_may_be_empty(self) -> None:
         self.assertEqual(self.shard(5, 5, 0), [])
@@ -100,6 +104,7 @@ class Shards(WithStandIn):
         self.call(SUITE, "--junit", "whole.xml", "tests")
         self.call(SUITE, "--shard", "2/3", "--junit", "other.xml", "tests/a.resc")
         self.write("none.xml", "<testsuites/>")
+        self.write("entity.xml", '<!DOCTYPE a [<!ENTITY b "c">]><testsuite>&b;</testsuite>')
         self.write("cut.xml", self.read("1-3.xml")[:300])
         for words, told in {
             ("1-3.xml",): "no results are given of shard 2/3, 3/3",
@@ -111,6 +116,7 @@ class Shards(WithStandIn):
             ): "1-3.xml and other.xml are shares of different lists of tests, or by different times",
             ("whole.xml",): "whole.xml names no shard: --shard writes it",
             ("none.xml",): "none.xml has no results as JUnit: 0 suites, and not one",
+            ("entity.xml",): "entity.xml has no results as JUnit: it has a DOCTYPE",
             ("missing.xml",): "missing.xml cannot be read: No such file or directory",
             ("tests",): "tests cannot be read: it is a folder, and no plain file",
         }.items():
