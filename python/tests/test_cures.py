@@ -21,7 +21,8 @@ from typing import Any, Dict, List, Tuple, Union
 from labtools import explain
 from labtools.common.program import TOP, path_of_program
 from labtools.scripts import cures
-from labtools.scripts import mistakes
+from labtools.scripts import parts
+from labtools.scripts import reads
 
 
 LAB = path_of_program()
@@ -234,7 +235,6 @@ class Explained(unittest.TestCase):
     def write(self, files: Files) -> None:
         for name, held in files.items():
             pathlib.Path(name).write_bytes(held if isinstance(held, bytes) else held.encode())
-        mistakes.parts_by_file.cache_clear()
 
     def refused(self, files: Files) -> Tuple[str, List[str]]:
         """The cause by which the program refuses a script, and what is said of it."""
@@ -324,8 +324,8 @@ class Mistakes(Explained):
     def test_what_a_platform_takes_from_a_pipe_is_not_read_again(self) -> None:
         os.mkfifo("pipe.repl")
         self.write({"s.resc": "mach create\nmachine LoadPlatformDescription @pipe.repl\nshowAnalyzer u\n"})
-        board = mistakes.Board("", True, files=[mistakes.reads.FileRead("pipe.repl", "platform", True, ())])
-        self.assertEqual(mistakes.parts_in(LAB, board), [])
+        board = reads.Board("", True, files=[reads.FileRead("pipe.repl", "platform", True, ())])
+        self.assertEqual(parts.Parts(LAB).of(board), [])
 
 
 class Until(Explained):

@@ -449,11 +449,9 @@ class Walk:
         board.has_pc = board.has_pc or bool(command.arguments)
 
     def speed(self, command: Command) -> None:
-        """The processors of a board together are limited. lab looks at the name of the processor before."""
-        board = self.equipped()
-        processor = resc.entry_of(resc.an_entry(resc.words_of(command.text)[0]))
-        speeds = [speed * len(board.processors) for speed in command.arguments]
-        if processor in board.processors and max(speeds, default=0) > SPEED_LIMIT:
+        """The processors of a board are limited together, whatever the name is."""
+        count = len(self.equipped().processors)
+        if any(speed * count > SPEED_LIMIT for speed in command.arguments):
             raise self.refuse(resc.ARGUMENTS)
 
     def image(self, command: Command) -> None:

@@ -9,7 +9,6 @@ from typing import List, Optional
 
 from labtools.scripts import reads
 from labtools.scripts import resc
-from labtools.scripts.parts import parts_of
 
 
 HERE = pathlib.Path(".")
@@ -99,13 +98,12 @@ def of_line(refusal: reads.Refusal) -> Refused:
     return Refused(refusal.place, refusal.text, refusal.cause, refusal.chain[:-1], [])
 
 
-def by_run_alone(program: str, reading: reads.Reading, is_check_refused: bool) -> Optional[Refused]:
+def by_run_alone(reading: reads.Reading, is_check_refused: bool) -> Optional[Refused]:
     """What a run is refused for and a check is not, if that can be told. A finisher may have ended a run early, so that
     a later one than the first is too long."""
     limit, refusal = reading.past_limit, reading.refusal
     if limit:
-        boards = [parts_of(program, board) for board in reading.boards]
-        if not any(part.kind == "finisher" for parts in boards for part in parts):
+        if not any(board.has_finisher for board in reading.boards):
             return of_line(limit[0])
         return None if is_check_refused else Refused("", "", limit[0].cause, (), [])
     if refusal and refusal.cause == "S21 occupied":
@@ -126,4 +124,4 @@ def found(program: str, script: str, until: Optional[int]) -> Optional[Refused]:
     reading = reads.follow(script, HERE, until or 0, told.place if told else "")
     if told and (until is None or is_taken_first(told, reading)):
         return of_check(told, reading)
-    return by_run_alone(program, reading, told is not None)
+    return by_run_alone(reading, told is not None)

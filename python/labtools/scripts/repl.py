@@ -1,7 +1,7 @@
 """What platform files say, by the rules of docs/PLATFORMS.md: the files that they use, and their entries.
 
-This reader stands beside the program's own and is not proved: `lab check` decides. It looks for no fault. A line without
-a form of platform text is passed over here, and lab refuses it.
+This reader stands beside the program's own and is not proved: `lab check` decides. It looks for no fault, and passes
+over a line that has no form of platform text.
 """
 import re
 from dataclasses import dataclass, field
