@@ -1,13 +1,17 @@
 """What the tests of scripts share: the program, a folder for files, boards, and ELF files."""
+import contextlib
 import functools
+import io
 import os
 import pathlib
 import shutil
 import struct
+import subprocess
 import tempfile
 import unittest
-from typing import Dict, Mapping, Union
+from typing import Dict, List, Mapping, Union
 
+from labtools import explain
 from labtools.common.program import path_of_program
 
 Content = Union[str, bytes]
@@ -40,6 +44,25 @@ class InFolder(unittest.TestCase):
 
     def write(self, files: Mapping[str, Content]) -> None:
         put(self.folder, files)
+
+
+class Explained(InFolder):
+    """A test of what tools/explain says, in a folder from which paths are taken. It is a part of the test, to take less
+    time."""
+
+    def setUp(self) -> None:
+        super().setUp()
+        self.enter()
+
+    def explained(self, status: int, *words: str) -> List[str]:
+        """What is said after a run with these words, which ends with this status."""
+        ran = subprocess.run([lab(), *words], stdout=subprocess.PIPE, check=False)
+        self.printed = ran.stdout.decode(errors="replace")
+        self.assertEqual(ran.returncode, status, self.printed)
+        said = io.StringIO()
+        with contextlib.redirect_stderr(said):
+            explain.main([lab(), str(status), *words])
+        return said.getvalue().splitlines()
 
 
 def put(folder: pathlib.Path, files: Mapping[str, Content]) -> None:
