@@ -10,6 +10,9 @@ line of the script, and that can be told without boards, the list ends with it. 
 This is not the reader of lab itself, and it is not proved: `lab check` decides. It sees no fault of a platform file or
 an image, and no wrong name or address on a board, and goes on where lab refuses such a line.
 
+The list ends at a script or a snapshot that is a pipe or a device: what that holds is for lab to read. A line on the
+standard error says so.
+
 It ends with 0; with 1 where a file is not there, a line is refused or the list cannot be written; with 2 where its own
 words are wrong. With --json it prints the same as data: `files`, `saves` (the files of `Save`) and `refusal`, which may
 be null.
@@ -18,6 +21,7 @@ import argparse
 import dataclasses
 import json
 import pathlib
+import sys
 
 from typing import Any, Dict, List
 
@@ -71,4 +75,6 @@ def main(words: List[str]) -> int:
         print(json.dumps(data_of(reading), indent=2))
     else:
         tell_reading(reading)
+    if reading.unseen:
+        print(shown(f"{name_of_script()}: {reading.unseen} is no plain file, and is left to lab"), file=sys.stderr)
     return 0 if reading.refusal is None and all(file.is_there for file in reading.files) else 1

@@ -125,6 +125,7 @@ PRINTED: List[Tuple[Files, List[str], str, int]] = [
     ({}, ["\udcff\n.resc"], "MISSING  script   \\xff\\x0a.resc\n", 1),
     ({"s.resc": "include @a.resc\n", "a.resc": "\n  log\x1b[1mLevel\t3\n"}, ["s.resc"], REFUSED, 1),
     ({"s.resc": "Load @kept\n"}, ["--json", "s.resc"], DATA, 1),
+    ({}, ["/dev/null"], "there    script   /dev/null\n", 0),
     ({}, [], "", 2),
 ]
 
@@ -142,7 +143,7 @@ class Printed(InFolder):
                 self.write(files)
                 ran = self.reads(*words)
                 self.assertEqual((ran.stdout.decode(), ran.returncode), (wanted, status))
-                self.assertEqual(ran.stderr != b"", status == 2)
+                self.assertEqual(ran.stderr != b"", status == 2 or words == ["/dev/null"])
                 for name in files:
                     (self.folder / name).unlink()
 
@@ -213,6 +214,8 @@ FOLLOWED: List[Tuple[str, List[str], Optional[str]]] = [
     ("pause\n" * 100_000 + "include @b\n", [], "100001 S12 commands"),
     # snapshots, and the end
     ("Load @none\ninclude @b\n", ["none"], None),
+    ("Load @b/\nfoo\n", ["b/"], None),
+    ("include @b/.\nfoo\n", ["b/."], None),
     ("mach create\nLoad @none\n", [], "2 S21 occupied"),
     ("start\nLoad @none\n", [], "2 S21 occupied"),
     ("Save @none\nquit\ninclude @b\n", [], None),
@@ -297,6 +300,19 @@ class Followed(Following):
         os.truncate(self.folder / "large", 16 * 2**20 + 1)
         fault = reads.follow("large", self.folder).refusal
         self.assertEqual(fault and (fault.place, fault.cause), ("large:0", "S19 size"))
+
+    def test_what_a_pipe_holds_is_not_known(self) -> None:
+        """Nothing is said of what follows, which may depend on it, and nothing is taken from the pipe."""
+        os.mkfifo(self.folder / "pipe")
+        for script, unseen in (
+            ("include @pipe\ninclude $x\n", "pipe"),
+            ("Load @pipe\nmach create\n", "pipe"),
+            (EQUIPPED.replace("p.repl", "pipe") + "cpu PerformanceInMips 501\n", ""),
+            (EQUIPPED + "sysbus LoadELF @pipe\n", ""),
+        ):
+            with self.subTest(script=script):
+                reading = self.follow(script)
+                self.assertEqual((reading.files[-1].path, reading.refusal, reading.unseen), ("pipe", None, unseen))
 
     def test_what_is_saved(self) -> None:
         saves = self.follow("Save @kept\nSave @none/kept\n").saves

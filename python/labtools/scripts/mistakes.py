@@ -1,7 +1,6 @@
 """What can be seen of a refused line besides its cause: which entries the board has in place of one that it has not,
 where memories are, what stands in a file. It reads the script and what it names, and runs no board."""
 import os
-import pathlib
 import re
 import struct
 from dataclasses import dataclass
@@ -167,7 +166,7 @@ def segments_of(content: bytes) -> Iterator[Tuple[int, int]]:
 def loaded(words: Sequence[str]) -> List[Tuple[int, int]]:
     """The addresses and the sizes of what a command loads, of which those of an Intel HEX file are not known."""
     path = resc.path_of(words[2]) if len(words) > 2 else None
-    content = reads.content_of(pathlib.Path(path)) if path else b""
+    content = reads.content_of(path) if path else b""
     if words[1] == "LoadBinary" and len(words) > 3:
         return [(resc.number_of(words[3]) or 0, len(content))]
     is_elf = words[1] == "LoadELF" and len(content) >= 52
@@ -199,7 +198,7 @@ def form_of_image(sight: Sight) -> List[str]:
     path = resc.path_of(sight.words[2]) if len(sight.words) > 2 else None
     if not path:
         return []
-    content = reads.content_of(pathlib.Path(path))
+    content = reads.content_of(path)
     if not content:
         return [f"{path} is empty"] if os.path.isfile(path) else []
     is_elf, is_hex = content.startswith(b"\x7fELF"), content.startswith(b":")
@@ -218,7 +217,7 @@ def large(sight: Sight) -> List[str]:
 def no_snapshot(sight: Sight) -> List[str]:
     path = resc.path_of(sight.words[-1]) or ""
     try:
-        snapshot.read(reads.content_of(pathlib.Path(path)))
+        snapshot.read(reads.content_of(path))
     except snapshot.NoSnapshot as fault:
         return [f"{path}: {fault}"]
     return []
@@ -226,7 +225,7 @@ def no_snapshot(sight: Sight) -> List[str]:
 
 def bad_text(refused: Refused) -> List[str]:
     """What may have written a file that is no UTF-8."""
-    content = reads.content_of(pathlib.Path(refused.place.rpartition(":")[0]))
+    content = reads.content_of(refused.place.rpartition(":")[0])
     if content.startswith((b"\xff\xfe", b"\xfe\xff")):
         return ["the file is UTF-16"]
     try:

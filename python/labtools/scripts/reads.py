@@ -11,8 +11,10 @@ This reader stands beside the program's own and is not proved: `lab check` decid
 S8, S9, S14, S16, the S19 of a `Save`, and all of platform files and images; of S20 it looks at the form of the snapshot
 alone. After a line that is refused by one of these lab reads no more, and this reader goes on: the line that it tells
 is the first of the others. It also goes on after an image or a platform file that is not there, where lab ends with
-status 4. It ends at a script or a snapshot that is not there, since what follows depends on it.
+status 4. It ends at a script or a snapshot that is not there, since what follows depends on it; and at one that is a
+pipe or a device, since what that holds is lab's to read.
 """
+import contextlib
 import os
 import pathlib
 from dataclasses import dataclass, field, replace
@@ -153,7 +155,8 @@ class Reading:
     script is refused or a file is not there, the last is the one where it ends. `saves` has the files of `Save`, each
     with whether its folder is there. `runs` counts the commands that run the boards, `starts` those of them that are
     `start`, and `time` is how long all do in microseconds, where no finisher ends one. `past_limit` is the first run
-    that would end too late then, and after how many commands. `scenes` has those of the watched line."""
+    that would end too late then, and after how many commands. `scenes` has those of the watched line. `unseen` is the
+    script or the snapshot that is no plain file, where the reading has ended."""
 
     files: List[FileRead] = field(default_factory=list)
     commands: List[Command] = field(default_factory=list)
@@ -165,6 +168,7 @@ class Reading:
     refusal: Optional[Refusal] = None
     past_limit: Optional[Tuple[Refusal, int]] = None
     scenes: List[Scene] = field(default_factory=list)
+    unseen: str = ""
 
 
 @dataclass(frozen=True)
@@ -182,7 +186,7 @@ class Macro:
 
 
 class Ended(Exception):
-    """No more is read: `quit`, or a file is not there on which all that follows depends."""
+    """No more is read: `quit`, or a file is not there or not seen on which all that follows depends."""
 
 
 class RefusedAt(Exception):
@@ -191,23 +195,19 @@ class RefusedAt(Exception):
         self.refusal = refusal
 
 
-def is_readable(path: pathlib.Path) -> bool:
+def is_readable(path: str) -> bool:
     """Whether a file is there and may be read. Those of os.path say no also where no path can be so."""
     return os.path.exists(path) and not os.path.isdir(path) and os.access(path, os.R_OK)
 
 
-def content_of(path: pathlib.Path) -> bytes:
-    """The bytes of a file. What comes from a pipe is not taken from those who are to read it."""
-    return path.read_bytes() if os.path.isfile(path) else b""
-
-
-def bad_line(content: bytes) -> int:
-    """The line of the first byte that is no UTF-8, or 0."""
-    try:
-        content.decode()
-    except UnicodeDecodeError as fault:
-        return content.count(b"\n", 0, fault.start) + 1
-    return 0
+def content_of(path: str) -> bytes:
+    """The bytes of a file; none where it cannot be read. What comes from a pipe is not taken from those who are to read
+    it."""
+    with contextlib.suppress(OSError):
+        if os.path.isfile(path):
+            with open(path, "rb") as file:
+                return file.read()
+    return b""
 
 
 class Walk:
@@ -237,10 +237,14 @@ class Walk:
 
     # ---- files
 
+    def file(self, path: str) -> str:
+        """The path of a file as seen from here. A slash at its end stays, since lab opens no plain file so."""
+        return os.path.join(self.folder, path)
+
     def note(self, path: str, kind: str, chain: Chain) -> FileRead:
         """A file is read by the line that ends the chain."""
         board = self.selected.name if self.selected and kind not in ("script", "snapshot") else ""
-        read = FileRead(path, kind, is_readable(self.folder / path), chain, board)
+        read = FileRead(path, kind, is_readable(self.file(path)), chain, board)
         self.reading.files.append(read)
         return read
 
@@ -250,16 +254,27 @@ class Walk:
         return RefusedAt(Refusal(self.here.place, self.here.text, cause, self.asking))
 
     def is_large(self, path: str, limit: int = FILE_LIMIT) -> bool:
-        file = self.folder / path
+        file = self.file(path)
         return os.path.isfile(file) and os.path.getsize(file) > limit
 
-    def text(self, path: str, chain: Chain) -> str:
-        """The text of a script or a platform file that is there."""
-        content = content_of(self.folder / path)
-        line = bad_line(content)
-        if line:
-            raise self.refuse("S18 not utf-8", f"{path}:{line}", "", chain)
-        return content.decode()
+    def content(self, read: FileRead, limit: int = FILE_LIMIT) -> bytes:
+        """The bytes of a script or a snapshot, on which all depends that follows."""
+        if not read.is_there:
+            raise Ended
+        if not os.path.isfile(self.file(read.path)):
+            self.reading.unseen = read.path
+            raise Ended
+        if self.is_large(read.path, limit):
+            raise self.refuse("S19 size", "" if read.chain else f"{read.path}:0")
+        return content_of(self.file(read.path))
+
+    def text(self, path: str, content: bytes, chain: Chain) -> str:
+        """The text of a script or a platform file."""
+        try:
+            return content.decode()
+        except UnicodeDecodeError as fault:
+            line = content.count(b"\n", 0, fault.start) + 1
+            raise self.refuse("S18 not utf-8", f"{path}:{line}", "", chain) from fault
 
     # ---- bodies
 
@@ -280,12 +295,8 @@ class Walk:
 
     def script(self, path: str) -> None:
         """Takes the script itself."""
-        read = self.note(path, "script", ())
-        if not read.is_there:
-            raise Ended
-        if self.is_large(path):
-            raise self.refuse("S19 size", f"{path}:0")
-        self.body(path, resc.numbered(self.text(path, ())), ())
+        content = self.content(self.note(path, "script", ()))
+        self.body(path, resc.numbered(self.text(path, content, ())), ())
 
     def take(self, file: str, item: resc.Item) -> None:
         self.here = Step(f"{file}:{item.line.number}", item.line.text.strip(" \t"))
@@ -482,19 +493,16 @@ class Walk:
 
     def save(self, command: Command) -> None:
         path = command.arguments[0]
-        is_there = os.path.isdir((self.folder / path).parent)
+        is_there = os.path.isdir(os.path.dirname(self.file(path)))
         self.reading.saves.append(FileRead(path, "snapshot", is_there, self.asking))
 
     def load(self, command: Command) -> None:
         if self.reading.boards or self.hubs or self.reading.time:
             raise self.refuse("S21 occupied")
         read = self.note(command.arguments[0], "snapshot", self.asking)
-        if not read.is_there:
-            raise Ended
-        if self.is_large(read.path, SNAPSHOT_LIMIT):
-            raise self.refuse("S19 size")
+        content = self.content(read, SNAPSHOT_LIMIT)
         try:
-            held = snapshot.read(content_of(self.folder / read.path))[0]
+            held = snapshot.read(content)[0]
         except snapshot.NoSnapshot as fault:
             raise self.refuse("S20 snapshot") from fault
         self.resume(held)
@@ -521,11 +529,8 @@ class Walk:
             raise self.refuse("S11 depth")
         chain = self.asking
         read = self.note(command.arguments[0], "script", chain)
-        if not read.is_there:
-            raise Ended
-        if self.is_large(read.path):
-            raise self.refuse("S19 size")
-        self.inner(read.path, resc.numbered(self.text(read.path, chain)), chain)
+        text = self.text(read.path, self.content(read), chain)
+        self.inner(read.path, resc.numbered(text), chain)
 
     def run_macro(self, command: Command) -> None:
         macro = self.macros.get(command.arguments[0])
@@ -548,7 +553,7 @@ class PlatformWalk:
 
     def file(self, read: FileRead, room: int) -> None:
         """A file that is there, of which so many may still be open within each other."""
-        text = self.walk.text(read.path, read.chain)
+        text = self.walk.text(read.path, content_of(self.walk.file(read.path)), read.chain)
         lines = resc.lines_of(text)
         for item in repl.items_of(text):
             if isinstance(item, repl.Using):

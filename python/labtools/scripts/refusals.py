@@ -58,7 +58,7 @@ def told_by_check(program: str, script: str) -> Optional[Told]:
 
 def text_at(told: Told) -> str:
     """The text of a line; none of line 0, or where the file came from a pipe."""
-    lines = resc.lines_of(reads.content_of(HERE / told.file).decode(errors="replace"))
+    lines = resc.lines_of(reads.content_of(told.file).decode(errors="replace"))
     return lines[told.number - 1].strip() if 0 < told.number <= len(lines) else ""
 
 
