@@ -397,12 +397,8 @@ class Ended:
     """How the program has ended, the place and the cause of a refusal, and what it has opened, where that is told."""
 
     status: int
-    place: str = ""
-    cause: str = ""
-    opened: Optional[List[str]] = None
-
-    def is_later(self) -> bool:
-        return LATER.match(self.cause) is not None
+    refusal: Optional[Tuple[str, str]]
+    opened: Optional[List[str]]
 
 
 def ended(script: str, folder: pathlib.Path, word: str, is_traced: bool) -> Ended:
@@ -414,55 +410,36 @@ def ended(script: str, folder: pathlib.Path, word: str, is_traced: bool) -> Ende
         names = [cases.unescaped(name.encode()).decode() for name in OPENED.findall(trace.read())]
     last = ran.stdout.decode(errors="surrogateescape").rstrip("\n").rpartition("\n")[2]
     found = REFUSED_AT.fullmatch(last) if ran.returncode == 3 else None
-    return Ended(ran.returncode, found[1] if found else "", found[2] if found else "", names if is_traced else None)
+    return Ended(ran.returncode, (found[1], found[2]) if found else None, names if is_traced else None)
 
 
 def difference(script: str, folder: pathlib.Path, is_traced: bool = False) -> str:
     """How the reading of a script differs from what the program does, or nothing. What depends on the lab time is seen
     by a run alone."""
     reading = reads.follow(script, folder)
-    by_time = reading.refusal is not None and reading.refusal.cause == "S21 occupied"
-    program = ended(script, folder, "run" if by_time else "check", is_traced)
-    if program.is_later():
-        reading = reads.follow(script, folder, watched=program.place)
-    faults = {0: faults_of_end, 3: faults_of_refusal, 4: faults_of_missing, 6: faults_of_missing}[program.status]
-    told = [fault for is_fault, fault in faults(program, reading) if is_fault]
-    return f"{', '.join(told)}: {program}, {reading.refusal}" if told else ""
-
-
-Faults = Iterator[Tuple[bool, str]]
-
-
-def faults_of_end(program: Ended, reading: reads.Reading) -> Faults:
-    paths = [file.path for file in reading.files]
-    yield reading.refusal is not None, "a refusal is told"
-    yield not all(file.is_there for file in reading.files), "a file is missing"
-    yield program.opened not in (None, paths), f"other files are read: {paths}"
-
-
-def faults_of_refusal(program: Ended, reading: reads.Reading) -> Faults:
-    """A refused line is that of the reading, unless its cause is one that is not looked for."""
-    paths = [file.path for file in reading.files]
-    opened = paths if program.opened is None else program.opened
-    wanted = program.place, program.cause
     told = (reading.refusal.place, reading.refusal.cause) if reading.refusal else None
-    yield opened != paths[: len(opened)], f"other files are read: {paths}"
-    if program.is_later():
-        is_read = program.place.rpartition(":")[0] in paths
-        is_reached = is_read if program.cause.startswith("P") else bool(reading.scenes)
-        yield not is_reached, "the line is not reached"
-        yield told is not None and told[0] == program.place and told != wanted, "the cause is another one"
+    by_time = told is not None and told[1] == "S21 occupied"
+    program = ended(script, folder, "run" if by_time else "check", is_traced)
+    paths = [file.path for file in reading.files]
+    there = [file.is_there for file in reading.files]
+    if program.refusal and LATER.match(program.refusal[1]):
+        is_other = told is not None and told[0] == program.refusal[0] and told != program.refusal
+        is_same = is_reached(*program.refusal, script, folder) and not is_other
+        paths = paths if program.opened is None else paths[: len(program.opened)]
+    elif program.status in (4, 6):
+        is_same = not all(there)
+        paths = paths[: [*there, False].index(False) + 1]
     else:
-        yield told != wanted, "the refusal is another one"
-        yield len(opened) != len(paths), f"more files are read: {paths}"
-        yield not all(file.is_there for file in reading.files), "a file is missing"
+        is_same = program.status in (0, 3) and told == program.refusal and all(there)
+    is_same = is_same and program.opened in (None, paths)
+    return "" if is_same else f"{program}, but {told} after {paths}"
 
 
-def faults_of_missing(program: Ended, reading: reads.Reading) -> Faults:
-    there = [file.is_there for file in reading.files] + [False]
-    paths = [file.path for file in reading.files[: there.index(False) + 1]]
-    yield all(there[:-1]), "no file is missing"
-    yield program.opened not in (None, paths), f"other files are read: {paths}"
+def is_reached(place: str, cause: str, script: str, folder: pathlib.Path) -> bool:
+    """Whether a reading comes to a line that the program refuses by a cause that is not looked for."""
+    reading = reads.follow(script, folder, watched=place)
+    is_read = place.rpartition(":")[0] in [file.path for file in reading.files]
+    return is_read if cause.startswith("P") else bool(reading.scenes)
 
 
 def differences(find: Callable[[pathlib.Path, int], Iterable[str]], count: int) -> List[str]:
