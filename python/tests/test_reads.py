@@ -464,7 +464,7 @@ class Opened(InFolder):
 
     def test_cases(self) -> None:
         paths = sorted(TOP.glob("cases/*.case"))
-        self.assertGreater(len(paths), 100)
+        self.assertGreater(len(paths), 50)
         self.assertEqual(differences(lambda folder, number: self.of_case(paths[number], folder), len(paths)), [])
 
     def of_case(self, path: pathlib.Path, folder: pathlib.Path) -> Iterator[str]:

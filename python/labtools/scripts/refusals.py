@@ -5,25 +5,21 @@ import pathlib
 import re
 import subprocess
 from dataclasses import dataclass
-from typing import List, Optional
+from typing import List, NamedTuple, Optional
 
 from labtools.scripts import reads
 from labtools.scripts import resc
 
 
 HERE = pathlib.Path(".")
-REFUSED = re.compile(r"error: (.*):(\d+): (\S+ .*)")
+REFUSED = re.compile(r"error: (.*:\d+): (\S+ .*)")
 
 
 @dataclass(frozen=True)
-class Refused:
-    """A line by its place FILE:LINE, its text and its cause as lab prints it, the lines that lead to it, and the scenes
-    at one of which it was refused. The place is empty where it is not known."""
+class Refused(reads.Refusal):
+    """The lines of its chain lead to a refused line, and at one of the scenes it was refused. The place is empty where
+    it is not known."""
 
-    place: str
-    text: str
-    cause: str
-    chain: reads.Chain
     scenes: List[reads.Scene]
 
     @property
@@ -35,17 +31,15 @@ class Refused:
         return resc.sides_of(self.text)
 
 
-@dataclass(frozen=True)
-class Told:
+class Told(NamedTuple):
     """What a check ends with: a place, and the cause."""
 
-    file: str
-    number: int
+    place: str
     cause: str
 
     @property
-    def place(self) -> str:
-        return f"{self.file}:{self.number}"
+    def file(self) -> str:
+        return self.place.rpartition(":")[0]
 
 
 def told_by_check(program: str, script: str) -> Optional[Told]:
@@ -53,13 +47,14 @@ def told_by_check(program: str, script: str) -> Optional[Told]:
     ran = subprocess.run([program, "check", "--", script], stdout=subprocess.PIPE, check=False)
     last = ran.stdout.decode(errors="replace").rstrip("\n").rpartition("\n")[2]
     match = REFUSED.fullmatch(last)
-    return Told(match[1], int(match[2]), match[3]) if match and ran.returncode == 3 else None
+    return Told(match[1], match[2]) if match and ran.returncode == 3 else None
 
 
 def text_at(told: Told) -> str:
     """The text of a line; none of line 0, or where the file came from a pipe."""
     lines = resc.lines_of(reads.content_of(told.file).decode(errors="replace"))
-    return lines[told.number - 1].strip() if 0 < told.number <= len(lines) else ""
+    number = int(told.place.rpartition(":")[2])
+    return lines[number - 1].strip() if 0 < number <= len(lines) else ""
 
 
 def steps_to(told: Told, reading: reads.Reading) -> reads.Chain:
