@@ -7,6 +7,7 @@ that of LAB, or else the one that ./lab runs. strace tells which files it opens;
 passed over.
 """
 import concurrent.futures
+import json
 import os
 import pathlib
 import random
@@ -81,33 +82,15 @@ MISSING  elf      m1.elf  test.resc:6 < test.resc:10 < test.resc:11
            test.resc:6: sysbus LoadELF $image
 """
 
-DATA = """\
-{
-  "files": [
-    {
-      "path": "s.resc",
-      "kind": "script",
-      "is_there": true,
-      "chain": [],
-      "board": ""
-    },
-    {
-      "path": "kept",
-      "kind": "snapshot",
-      "is_there": false,
-      "chain": [
-        {
-          "place": "s.resc:1",
-          "text": "Load @kept"
-        }
-      ],
-      "board": ""
-    }
-  ],
-  "saves": [],
-  "refusal": null
+LOADED = {"place": "s.resc:1", "text": "Load @kept"}
+DATA = {
+    "files": [
+        {"path": "s.resc", "kind": "script", "is_there": True, "chain": [], "board": ""},
+        {"path": "kept", "kind": "snapshot", "is_there": False, "chain": [LOADED], "board": ""},
+    ],
+    "saves": [],
+    "refusal": None,
 }
-"""
 
 REFUSED = """\
 there    script   s.resc
@@ -124,7 +107,7 @@ PRINTED: List[Tuple[Files, List[str], str, int]] = [
     ({}, ["s.resc"], "MISSING  script   s.resc\n", 1),
     ({}, ["\udcff\n.resc"], "MISSING  script   \\xff\\x0a.resc\n", 1),
     ({"s.resc": "include @a.resc\n", "a.resc": "\n  log\x1b[1mLevel\t3\n"}, ["s.resc"], REFUSED, 1),
-    ({"s.resc": "Load @kept\n"}, ["--json", "s.resc"], DATA, 1),
+    ({"s.resc": "Load @kept\n"}, ["--json", "s.resc"], json.dumps(DATA, indent=2) + "\n", 1),
     ({}, ["/dev/null"], "there    script   /dev/null\n", 0),
     ({}, [], "", 2),
 ]
