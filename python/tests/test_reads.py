@@ -15,6 +15,7 @@ import re
 import shutil
 import subprocess
 import tempfile
+import time
 import unittest
 from dataclasses import dataclass
 from typing import Callable, Dict, Iterable, Iterator, List, Optional, Tuple
@@ -296,6 +297,18 @@ class Followed(Following):
             with self.subTest(script=script):
                 reading = self.follow(script)
                 self.assertEqual((reading.files[-1].path, reading.refusal, reading.unseen), ("pipe", None, unseen))
+
+    def test_long_texts_are_read_in_a_moment(self) -> None:
+        for name, text in (
+            ("comments", "/*" * 2**20),
+            ("word", "x: CPU.RiscV32\n    " + "a" * 2**20),
+            ("blanks", "x:" + " " * 2**20 + "{" + "a " * 2**20),
+            ("quotes", 'x: { a: "' * 2**17),
+        ):
+            with self.subTest(text=name):
+                begun = time.process_time()
+                self.assertEqual(self.told(EQUIPPED, **{"p.repl": text}), None)
+                self.assertLess(time.process_time() - begun, 20)
 
     def test_what_is_saved(self) -> None:
         saves = self.follow("Save @kept\nSave @none/kept\n").saves

@@ -12,10 +12,11 @@ from labtools.scripts import resc
 PROCESSOR = "CPU.RiscV32"
 FINISHER = "Miscellaneous.SiFiveTest"
 
-COMMENT = re.compile(r'"[^"\n]*["\n]?|//[^\n]*|/\*.*?\*/', re.DOTALL)
+# One that is not closed reaches to the end.
+COMMENT = re.compile(r'"[^"\n]*["\n]?|//[^\n]*|/\*.*?(?:\*/|\Z)', re.DOTALL)
 USING = re.compile(r'using[ \t]*"([^"]*)"[ \t]*')
 HEAD = re.compile(r"(\w+)[ \t]*:[ \t]*([A-Za-z][\w.]*)?")
-ATTRIBUTE = re.compile(r'(\w+)[ \t]*:[ \t]*(?:"([^"]*)"|([\w.]*))')
+ATTRIBUTE = re.compile(r'\b(\w+)[ \t]*:[ \t]*(?:"([^"]*)"|([\w.]*))')
 
 
 @dataclass(frozen=True)
