@@ -88,7 +88,7 @@ def explain_kept(reading: reads.Reading) -> None:
     explain_missing(reading)
     for save in reading.saves:
         if not save.is_there:
-            tell(f"{pathlib.Path(save.path).parent}, the folder of {save.path}, is not there")
+            tell(f"{os.path.dirname(save.path)}, the folder of {save.path}, is not there")
             tell_steps(save.chain)
 
 
@@ -110,14 +110,14 @@ def explain_refused(program: str, script: str, until: Optional[int]) -> None:
 # ---- what is silent
 
 
-def flags_of(path: pathlib.Path) -> int:
+def flags_of(path: str) -> int:
     """The flags of the header of a 32-bit ELF file for RISC-V; none where it came from a pipe."""
     head = reads.content_of(path)[:40]
     return int(struct.unpack("<I", head[36:])[0]) if len(head) == 40 else 0
 
 
 def warn_of_elf(board: reads.Board, file: reads.FileRead) -> None:
-    flags = flags_of(HERE / file.path)
+    flags = flags_of(file.path)
     if flags & COMPRESSED and not board.has_compressed:
         tell(
             f"{file.asked_by}: {file.path} has compressed instructions, and the processors of {board.name} have none"
@@ -131,7 +131,7 @@ def warn_of_elf(board: reads.Board, file: reads.FileRead) -> None:
         )
 
 
-def has_address_0(path: pathlib.Path) -> bool:
+def has_address_0(path: str) -> bool:
     """Whether an Intel HEX file has a byte for address 0."""
     base = 0
     for line in reads.content_of(path).decode("ascii", "replace").splitlines():
@@ -148,7 +148,7 @@ def warn_of_images(board: reads.Board) -> None:
         if file.kind == "elf" and board.cpu_type:
             warn_of_elf(board, file)
     last = board.ran_with
-    if last and not (last.kind == "hex" and has_address_0(HERE / last.path)):
+    if last and not (last.kind == "hex" and has_address_0(last.path)):
         tell(
             f"{last.asked_by}: {board.name} runs from address 0: LoadHEX, LoadBinary and machine Reset do not set pc,"
             " and no `cpu PC` with an address follows"
@@ -156,6 +156,8 @@ def warn_of_images(board: reads.Board) -> None:
 
 
 def explain_done(reading: reads.Reading, until: Optional[int]) -> None:
+    if reading.unseen:
+        return
     for board in reading.boards:
         warn_of_images(board)
     images = [file for file in reading.files if file.is_image]

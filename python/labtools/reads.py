@@ -7,6 +7,12 @@ that asks for it, with the places that lead there behind `<`. Below a file that 
 the script's own first. Paths are taken from the folder in which this is started, as lab takes them. Where lab refuses a
 line of the script, and that can be told without boards, the list ends with it. Nothing is run, and no image is read.
 
+This is not the reader of lab itself, and it is not proved: `lab check` decides. It sees no fault of a platform file or
+an image, and no wrong name or address on a board, and goes on where lab refuses such a line.
+
+The list ends at a script or a snapshot that is a pipe or a device: what that holds is for lab to read. A line on the
+standard error says so.
+
 It ends with 0; with 1 where a file is not there, a line is refused or the list cannot be written; with 2 where its own
 words are wrong. With --json it prints the same as data: `files`, `saves` (the files of `Save`) and `refusal`, which may
 be null.
@@ -14,28 +20,46 @@ be null.
 import dataclasses
 import json
 import pathlib
-from typing import List
+import sys
+from typing import Any, Dict, List
 
+from labtools.common.escapes import shown
 from labtools.common.program import parser_of
 from labtools.scripts import reads
 
 
-def print_steps(chain: reads.Chain) -> None:
+def tell(text: str) -> None:
+    print(shown(text, "\t"))
+
+
+def tell_steps(chain: reads.Chain) -> None:
     for step in chain:
-        print(f"           {step.place}: {step.text}")
+        tell(f"           {step.place}: {step.text}")
 
 
-def print_file(file: reads.FileRead) -> None:
+def tell_file(file: reads.FileRead) -> None:
     state = "there" if file.is_there else "MISSING"
     places = " < ".join(step.place for step in reversed(file.chain))
-    print(f"{state:8} {file.kind:8} {file.path}" + (f"  {places}" if places else ""))
+    tell(f"{state:8} {file.kind:8} {file.path}" + (f"  {places}" if places else ""))
     if not file.is_there:
-        print_steps(file.chain)
+        tell_steps(file.chain)
 
 
-def print_refusal(refusal: reads.Refusal) -> None:
-    print(f"refused  {refusal.place}: {refusal.cause}")
-    print_steps(refusal.chain)
+def tell_reading(reading: reads.Reading) -> None:
+    for file in reading.files:
+        tell_file(file)
+    if reading.refusal:
+        tell(f"refused  {reading.refusal.place}: {reading.refusal.cause}")
+        tell_steps(reading.refusal.chain)
+
+
+def data_of(reading: reads.Reading) -> Dict[str, Any]:
+    refusal = reading.refusal and dataclasses.asdict(reading.refusal)
+    return {
+        "files": [dataclasses.asdict(file) for file in reading.files],
+        "saves": [dataclasses.asdict(file) for file in reading.saves],
+        "refusal": refusal,
+    }
 
 
 def main(words: List[str]) -> int:
@@ -45,11 +69,9 @@ def main(words: List[str]) -> int:
     given = parser.parse_args(words)
     reading = reads.follow(given.script, pathlib.Path("."))
     if given.json:
-        data = dataclasses.asdict(reading)
-        print(json.dumps({name: data[name] for name in ("files", "saves", "refusal")}, indent=2))
+        print(json.dumps(data_of(reading), indent=2))
     else:
-        for file in reading.files:
-            print_file(file)
-        if reading.refusal:
-            print_refusal(reading.refusal)
+        tell_reading(reading)
+    if reading.unseen:
+        print(shown(f"{name_of_script()}: {reading.unseen} is no plain file, and is left to lab"), file=sys.stderr)
     return 0 if reading.refusal is None and all(file.is_there for file in reading.files) else 1

@@ -1,36 +1,23 @@
 """Tries that tools/explain prints a cure of each cause for which lab refuses a line, and what can be seen of the line
-besides. Prints what is wrong, and nothing else.
-
-    python/tests/test_cures.py
+besides.
 
 Each script is refused by the program, that of LAB or else the one that ./lab runs. What is wanted was written down
 beforehand, from the tables of docs/ and from the rules of scripts and platform files.
 """
-import contextlib
-import io
 import os
-import pathlib
 import re
-import shutil
-import struct
 import subprocess
-import tempfile
-import unittest
-from typing import Any, Dict, List, Tuple, Union
+from typing import List, Tuple
 
-from labtools import explain
-from labtools.common.program import TOP, path_of_program
+from labtools.common.program import TOP
 from labtools.scripts import cures
-from labtools.scripts import mistakes
+from labtools.scripts import parts
+from labtools.scripts import reads
+from tests.scripts import CPU, RAM, UART, Content, Explained, Files, elf, lab
 
 
-LAB = path_of_program()
-Files = Dict[str, Union[str, bytes]]
-
-RAM = "ram: Memory.MappedMemory @ sysbus 0x80000000 { size: 0x10000 }\n"
-CPU = 'cpu: CPU.RiscV32 @ sysbus { cpuType: "rv32im" }\n'
-BOARD = f"{RAM}uart: UART.NS16550 @ sysbus 0x10000000\ncan0: CAN.SJA1000 @ sysbus 0x10001000\n{CPU}"
-BARE = f"{RAM}{CPU}"
+BARE = RAM + CPU
+BOARD = f"{RAM}{UART}can0: CAN.SJA1000 @ sysbus 0x10001000\n{CPU}"
 CLINT = "clint: IRQControllers.CoreLevelInterruptor @ sysbus 0x2000000 { frequency: 1 }\n"
 PAIR = BARE + CPU.replace("cpu:", "c:")
 MAKE = 'emulation CreateUARTHub "wire"\nemulation CreateCANHub "bus"\nmach create "m0"\n'
@@ -39,17 +26,7 @@ SCRIPTS, PLATFORMS, IMAGES = "docs/SCRIPTS.md", "docs/PLATFORMS.md", "docs/IMAGE
 TROUBLE, RENODE = "docs/TROUBLESHOOTING.md", "docs/RENODE.md"
 
 
-def elf(**changes: int) -> bytes:
-    """An ELF file with a segment of no bytes, whose header has these changes: a number of 16 bits at a place."""
-    head = b"\x7fELF\x01\x01\x01".ljust(16, b"\0")
-    head += struct.pack("<HHIIIIIHHHHHH", 2, 243, 1, 0x80000000, 52, 0, 0, 52, 32, 1, 0, 0, 0)
-    held = bytearray(head + struct.pack("<8I", 1, 84, 0x80000000, 0x80000000, 0, 4, 5, 4))
-    for place, value in changes.items():
-        struct.pack_into("<H", held, int(place[2:]), value)
-    return bytes(held)
-
-
-def with_line(line: str, **files: Union[str, bytes]) -> Files:
+def with_line(line: str, **files: Content) -> Files:
     """A script whose fifth line is this one, after a board of two devices and two hubs."""
     return {"s.resc": f"{MAKE}{EQUIP}{line}\n", **{name.replace("_", "."): held for name, held in files.items()}}
 
@@ -215,45 +192,26 @@ OTHERS: List[Tuple[Files, str, str]] = [
 ]
 
 
-class Explained(unittest.TestCase):
-    """tools/explain is a part of these tests here, to take less time. Each has a folder of its own."""
-
-    maxDiff = None
+class Refused(Explained):
+    """Scripts that are refused, beside the files that some of them name."""
 
     def setUp(self) -> None:
-        self.folder = pathlib.Path(tempfile.mkdtemp(prefix="lab-cures-"))
-        self.addCleanup(shutil.rmtree, self.folder)
-        self.module: Any = explain
-        self.addCleanup(os.chdir, os.getcwd())
-        os.chdir(self.folder)
+        super().setUp()
         self.write({"board.repl": BOARD, "text": "Hello there\n", "text.hex": ":00000001FF\n"})
         self.write({"high.elf": elf(at62=0x8000, at64=0xFFFC, at72=8)})
         self.write({"keep.resc": f"mach create old\n{EQUIP}Save @keep\n"})
-        subprocess.run([LAB, "run", "keep.resc"], check=True)
-
-    def write(self, files: Files) -> None:
-        for name, held in files.items():
-            pathlib.Path(name).write_bytes(held if isinstance(held, bytes) else held.encode())
-        mistakes.parts_by_file.cache_clear()
+        subprocess.run([lab(), "run", "keep.resc"], check=True)
 
     def refused(self, files: Files) -> Tuple[str, List[str]]:
         """The cause by which the program refuses a script, and what is said of it."""
         self.write(files)
-        ran = subprocess.run([LAB, "run", "s.resc"], stdout=subprocess.PIPE)
-        last = ran.stdout.decode(errors="replace").splitlines()[-1]
-        found = re.fullmatch(r"error: \S+:\d+: (\S+ .*)", last)
-        self.assertTrue(found and ran.returncode == 3, last)
-        assert found
-        return found[1], self.said(3)
-
-    def said(self, status: int, until: Any = None) -> List[str]:
-        told = io.StringIO()
-        with contextlib.redirect_stderr(told):
-            self.module.explain(LAB, status, "s.resc", until)
-        return told.getvalue().splitlines()
+        said = self.explained(3, "run", "s.resc")
+        found = re.fullmatch(r"error: \S+:\d+: (\S+ .*)", self.printed.splitlines()[-1])
+        assert found, self.printed
+        return found[1], said
 
 
-class Cures(Explained):
+class Cures(Refused):
     def test_the_cure_of_each_code_is_printed(self) -> None:
         for cause, files, document, cure in CODES:
             with self.subTest(cause=cause):
@@ -284,7 +242,7 @@ class Cures(Explained):
         self.assertIn("the sign `|`, and `@` in a head", told)
 
 
-class Mistakes(Explained):
+class Mistakes(Refused):
     def test_what_a_new_user_writes_is_seen_and_has_a_cure(self) -> None:
         self.assertGreaterEqual(len(MISTAKES), 30)
         for line, code, seen, document in MISTAKES:
@@ -324,15 +282,5 @@ class Mistakes(Explained):
     def test_what_a_platform_takes_from_a_pipe_is_not_read_again(self) -> None:
         os.mkfifo("pipe.repl")
         self.write({"s.resc": "mach create\nmachine LoadPlatformDescription @pipe.repl\nshowAnalyzer u\n"})
-        board = mistakes.Board("", True, files=[mistakes.reads.FileRead("pipe.repl", "platform", True, ())])
-        self.assertEqual(mistakes.parts_in(LAB, board), [])
-
-
-class Until(Explained):
-    def test_until_does_nothing_without_start(self) -> None:
-        self.write({"s.resc": "emulation RunFor 1\n"})
-        wanted = "lab: --until does nothing: it says how far `start` runs, and s.resc has no `start`"
-        self.assertEqual(self.said(0, 2_000_000), [wanted])
-        self.assertEqual(self.said(0), [])
-        self.write({"s.resc": "include @on.resc\n", "on.resc": "start\n"})
-        self.assertEqual(self.said(0, 2_000_000), [])
+        board = reads.Board("", True, files=[reads.FileRead("pipe.repl", "platform", True, ())])
+        self.assertEqual(parts.Parts(lab()).of(board), [])

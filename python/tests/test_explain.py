@@ -1,35 +1,24 @@
-"""Tries tools/explain, the last table of docs/RENODE.md, and what ./lab says after a run. Prints what is wrong or
-passed over, and nothing else.
-
-    python/tests/test_explain.py
+"""Tries tools/explain, the last table of docs/RENODE.md, and what ./lab says after a run.
 
 The program is that of LAB, or else the one that ./lab runs. What is wanted was written down from the documents.
 """
-import contextlib
-import io
 import os
-import pathlib
 import pty
 import shutil
-import struct
 import subprocess
-import tempfile
 import unittest
-from typing import Dict, List, Tuple
+from typing import List, Tuple
 
-from labtools import explain
-from labtools.common.program import TOP, path_of_program
+from labtools.common.program import TOP
+from tests.scripts import CPU, RAM, UART, Explained, Files, elf, lab
 
 
-LAB = path_of_program()
 EXPLAIN = str(TOP / "tools" / "explain")
 
 MAKE = 'emulation CreateUARTHub "hub"\nmach create "m0"\nmachine LoadPlatformDescription @board.repl\n'
-BOARD = """\
-ram: Memory.MappedMemory @ sysbus 0x80000000 { size: 0x10000 }
-uart: UART.NS16550 @ sysbus 0x10000000
-cpu: CPU.RiscV32 @ sysbus { cpuType: "rv32im"; PerformanceInMips: 1 }
-"""
+BOARD = RAM + UART + CPU.replace(" }", "; PerformanceInMips: 1 }")
+FINISHER = "fin: Miscellaneous.SiFiveTest @ sysbus 0x100000\n"
+RUN = 'emulation RunFor "0.000001"\n'
 
 # a line of Renode's, the cause by which it is refused, and how the advice begins
 TRIALS: List[Tuple[str, str, str]] = [
@@ -108,72 +97,120 @@ start
 quit
 """
 
-
-def elf(flags: int) -> bytes:
-    """An ELF executable for RISC-V without segments, whose entry is 0x80000000."""
-    head = b"\x7fELF\x01\x01\x01".ljust(16, b"\0")
-    return head + struct.pack("<HHIIIIIHHHHHH", 2, 243, 1, 0x80000000, 0, 0, flags, 52, 32, 0, 0, 0, 0)
-
-
-class InFolder(unittest.TestCase):
-    """A test with an empty folder of its own."""
-
-    maxDiff = None
-
-    def setUp(self) -> None:
-        self.folder = pathlib.Path(tempfile.mkdtemp(prefix="explain-"))
-        self.addCleanup(shutil.rmtree, self.folder)
-        self.write({"board.repl": BOARD, "make.resc": MAKE})
-
-    def write(self, files: Dict[str, str]) -> None:
-        for name, text in files.items():
-            path = self.folder / name
-            path.parent.mkdir(parents=True, exist_ok=True)
-            path.write_text(text)
-
-    def explained(self, status: int, *words: str) -> List[str]:
-        """What is said after a run with these words, which ends with this status."""
-        ran = subprocess.run([LAB, *words], cwd=self.folder, stdout=subprocess.PIPE, text=True)
-        self.assertEqual(ran.returncode, status, ran.stdout)
-        self.printed = ran.stdout
-        command = [EXPLAIN, LAB, str(status), *words]
-        said = subprocess.run(command, cwd=self.folder, stdout=subprocess.PIPE, stderr=subprocess.PIPE, text=True)
-        self.assertEqual((said.stdout, said.returncode), ("", 0))
-        return said.stderr.splitlines()
-
-
-class Missing(InFolder):
-    """Files that are not there."""
-
-    def test_two_using_deep(self) -> None:
-        self.write(
-            {
-                "s.resc": "# a test\n$p=@boards/m0.repl\nmach create\nmachine LoadPlatformDescription $p\n",
-                "boards/m0.repl": '\nusing "boards/base.repl"\n',
-                "boards/base.repl": 'using "uart.repl"\n',
-                "boards/uart.repl": "",
-            }
-        )
-        wanted = [
+# files, the status with which a run with these words ends, and what is said
+SAID: List[Tuple[Files, int, str, List[str]]] = [
+    (
+        {
+            "s.resc": "# a test\n$p=@boards/m0.repl\nmach create\nmachine LoadPlatformDescription $p\n",
+            "boards/m0.repl": '\nusing "boards/base.repl"\n',
+            "boards/base.repl": 'using "uart.repl"\n',
+            "boards/uart.repl": "",
+        },
+        4,
+        "check s.resc",
+        [
             "lab: uart.repl is not there",
             "lab:   s.resc:2: $p=@boards/m0.repl",
             "lab:   s.resc:4: machine LoadPlatformDescription $p",
             'lab:   boards/m0.repl:2: using "boards/base.repl"',
             'lab:   boards/base.repl:1: using "uart.repl"',
             "lab: boards/uart.repl is there, but a path is not taken from the folder of the file that names it",
-        ]
-        self.assertEqual(self.explained(4, "run", "s.resc"), wanted)
-        self.assertEqual(self.explained(4, "check", "s.resc"), wanted)
+        ],
+    ),
+    (
+        {"s.resc": "include @make.resc\nsysbus LoadELF @build\n", "build/a.elf": ""},
+        4,
+        "run --until=2 -- s.resc",
+        ["lab: build is a folder", "lab:   s.resc:2: sysbus LoadELF @build"],
+    ),
+    ({}, 4, "run none.resc", ["lab: none.resc is not there"]),
+    ({"s.resc": "Load @kept\n"}, 6, "run s.resc", ["lab: kept is not there", "lab:   s.resc:1: Load @kept"]),
+    (
+        {"s.resc": "Save @none/kept\n"},
+        6,
+        "run s.resc",
+        ["lab: none, the folder of none/kept, is not there", "lab:   s.resc:1: Save @none/kept"],
+    ),
+    (
+        {
+            "s.resc": "include @make.resc\ninclude @a.resc\nrunMacro $m\n",
+            "a.resc": 'macro m """\n\n\techo "ready"\n"""\n',
+        },
+        3,
+        "run s.resc",
+        [
+            "lab:   s.resc:3: runMacro $m",
+            'lab:   a.resc:3: echo "ready"',
+            "lab: docs/RENODE.md: Leave it out: a script prints only what it reads, and a line that begins with `#` is"
+            " a comment",
+        ],
+    ),
+    (
+        {
+            "s.resc": "mach create\nmachine LoadPlatformDescription @p.repl\n",
+            "p.repl": 'using "q.repl"\n',
+            "q.repl": BOARD + "gpio: GPIOPort.None @ sysbus 0x0\n",
+        },
+        3,
+        "run s.resc",
+        [
+            "lab:   s.resc:2: machine LoadPlatformDescription @p.repl",
+            'lab:   p.repl:1: using "q.repl"',
+            "lab:   q.repl:4: gpio: GPIOPort.None @ sysbus 0x0",
+            'lab: docs/PLATFORMS.md: there is no such type; types are told apart by case. Take one of "Types"; for'
+            " registers that only keep what is stored a `Memory.MappedMemory` does",
+        ],
+    ),
+]
 
-    def test_a_folder(self) -> None:
-        self.write({"s.resc": "include @make.resc\nsysbus LoadELF @build\n", "build/a.elf": ""})
-        wanted = ["lab: build is a folder", "lab:   s.resc:2: sysbus LoadELF @build"]
-        self.assertEqual(self.explained(4, "run", "--until=2", "--", "s.resc"), wanted)
+# a script, the words of a run that refuses it, and the first line that is said: what depends on the lab time is told by
+# the lengths of the runs, since a check is not refused there, but at a line after it
+FIRST: List[Tuple[str, str, str]] = [
+    ("emulation RunFor 10000\nemulation RunFor 1\nfoo\n", "run s.resc", "2: emulation RunFor 1"),
+    ("start\nemulation RunFor 1\nfoo\n", "run s.resc --until 10000", "2: emulation RunFor 1"),
+    ("emulation RunFor 10000\nemulation RunFor 1\nfoo\n", "check s.resc", "3: foo"),
+    ("foo\nemulation RunFor 10000\nemulation RunFor 1\n", "run s.resc", "1: foo"),
+    ("start\nLoad @kept\nfoo\n", "run s.resc", "2: Load @kept"),
+    ("start\nLoad @s.resc\n", "run s.resc", "2: Load @s.resc"),
+    ("mach create a\nmach set " + "0" * 5000 + "\nnone\n", "run s.resc", "3: none"),
+    ("include @make.resc\ncpu0 PC 0x80000000\n", "run s.resc", "2: cpu0 PC 0x80000000"),
+    ("foo \x1b[2J\t\u202e.\n", "run s.resc", "1: foo \\x1b[2J\t\\u202e."),
+]
 
-    def test_the_script(self) -> None:
-        self.assertEqual(self.explained(4, "run", "s.resc"), ["lab: s.resc is not there"])
+
+class Said(Explained):
+    """What is said after a run that has not ended with 0."""
+
+    def setUp(self) -> None:
+        super().setUp()
+        self.write({"board.repl": BOARD, "make.resc": MAKE})
+
+    def test_what_is_said(self) -> None:
+        for files, status, words, wanted in SAID:
+            with self.subTest(words=words, wanted=wanted[0]):
+                self.write(files)
+                self.assertEqual(self.explained(status, *words.split()), wanted)
+                if words == "check s.resc":
+                    self.assertEqual(self.explained(status, "run", "s.resc"), wanted)
+
+    def test_the_line_is_told_first(self) -> None:
+        self.write({"a.resc": "Save @kept\n"})
+        self.explained(0, "run", "a.resc")
+        for script, words, line in FIRST:
+            with self.subTest(words=words, line=line):
+                self.write({"s.resc": script})
+                self.assertEqual(self.explained(3, *words.split())[0], f"lab:   s.resc:{line}")
+
+    def test_a_word_of_lab_alone_has_one_cure(self) -> None:
+        self.write({"s.resc": "include @make.resc\ncpu0 PC 0x80000000\n"})
+        self.assertEqual(len(self.explained(3, "run", "s.resc")), 3)
+
+    def test_time_has_passed_before_load(self) -> None:
+        self.write({"s.resc": "start\nLoad @s.resc\n"})
+        self.assertIn("before each `mach create`", self.explained(3, "run", "s.resc")[1])
 
     def test_paths_that_no_file_can_have(self) -> None:
+        (self.folder / "self").symlink_to("self")
         for path, state in (
             ("n" * 256, "cannot be read: File name too long"),
             ("s.resc/a.elf", "is not there"),
@@ -181,8 +218,6 @@ class Missing(InFolder):
             ("a\0b", "is not there"),
         ):
             self.write({"s.resc": f"include @{path}\n"})
-            if path == "self":
-                (self.folder / path).symlink_to(path)
             shown = path.replace("\0", "\\x00")
             wanted = [f"lab: {shown} {state}", f"lab:   s.resc:1: include @{shown}"]
             self.assertEqual(self.explained(4, "run", "s.resc"), wanted)
@@ -204,75 +239,13 @@ class Missing(InFolder):
             writer.stdin.close()
             self.assertEqual(self.explained(0, "check", "s.resc"), [])
 
-    def test_snapshots(self) -> None:
-        self.write({"s.resc": "Load @kept\n"})
-        self.assertEqual(self.explained(6, "run", "s.resc"), ["lab: kept is not there", "lab:   s.resc:1: Load @kept"])
-        self.write({"s.resc": "Save @none/kept\n"})
-        wanted = ["lab: none, the folder of none/kept, is not there", "lab:   s.resc:1: Save @none/kept"]
-        self.assertEqual(self.explained(6, "run", "s.resc"), wanted)
-
-
-class Refused(InFolder):
-    """Lines that are refused."""
-
-    def test_a_line_in_a_macro_of_an_included_file(self) -> None:
-        self.write({"s.resc": "include @make.resc\ninclude @a.resc\nrunMacro $m\n"})
-        self.write({"a.resc": 'macro m """\n\n\techo "ready"\n"""\n'})
-        wanted = [
-            "lab:   s.resc:3: runMacro $m",
-            'lab:   a.resc:3: echo "ready"',
-            "lab: docs/RENODE.md: Leave it out: a script prints only what it reads, and a line that begins with `#` is"
-            " a comment",
-        ]
-        self.assertEqual(self.explained(3, "run", "s.resc"), wanted)
-
-    def test_a_line_of_a_platform_file(self) -> None:
-        self.write({"s.resc": "mach create\nmachine LoadPlatformDescription @p.repl\n", "p.repl": 'using "q.repl"\n'})
-        self.write({"q.repl": BOARD + "gpio: GPIOPort.None @ sysbus 0x0\n"})
-        wanted = [
-            "lab:   s.resc:2: machine LoadPlatformDescription @p.repl",
-            'lab:   p.repl:1: using "q.repl"',
-            "lab:   q.repl:4: gpio: GPIOPort.None @ sysbus 0x0",
-            'lab: docs/PLATFORMS.md: there is no such type; types are told apart by case. Take one of "Types"; for'
-            " registers that only keep what is stored a `Memory.MappedMemory` does",
-        ]
-        self.assertEqual(self.explained(3, "run", "s.resc"), wanted)
-
-    def test_a_number_of_5000_digits_is_passed(self) -> None:
-        self.write({"s.resc": f'mach create "m"\nmach set {"0" * 5000}\nnone\n'})
-        self.assertIn("lab:   s.resc:3: none", self.explained(3, "run", "s.resc"))
-
-    def test_a_word_of_lab_alone(self) -> None:
-        self.write({"s.resc": "include @make.resc\ncpu0 PC 0x80000000\n"})
-        said = self.explained(3, "run", "s.resc")
-        self.assertEqual(said[0], "lab:   s.resc:2: cpu0 PC 0x80000000")
-        self.assertEqual(len(said), 3)
-
-    def test_what_depends_on_the_time_is_told_by_the_lengths_of_the_runs(self) -> None:
-        """A check is not refused at the second run, or at `Load`, but at the line after it."""
-        self.write({"s.resc": "emulation RunFor 10000\nemulation RunFor 1\nfoo\n"})
-        self.assertEqual(self.explained(3, "run", "s.resc")[0], "lab:   s.resc:2: emulation RunFor 1")
-        self.write({"s.resc": "start\nemulation RunFor 1\nfoo\n"})
-        said = self.explained(3, "run", "s.resc", "--until", "10000")
-        self.assertEqual(said[0], "lab:   s.resc:2: emulation RunFor 1")
-        self.write({"s.resc": "emulation RunFor 10000\nemulation RunFor 1\nfoo\n"})
-        self.assertEqual(self.explained(3, "check", "s.resc")[0], "lab:   s.resc:3: foo")
-        self.write({"s.resc": "foo\nemulation RunFor 10000\nemulation RunFor 1\n"})
-        self.assertEqual(self.explained(3, "run", "s.resc")[0], "lab:   s.resc:1: foo")
-        self.write({"a.resc": "Save @kept\n", "s.resc": "start\nLoad @kept\nfoo\n"})
-        self.explained(0, "run", "a.resc")
-        self.assertEqual(self.explained(3, "run", "s.resc")[0], "lab:   s.resc:2: Load @kept")
-        self.write({"s.resc": "start\nLoad @s.resc\n"})
-        self.assertIn("before each `mach create`", self.explained(3, "run", "s.resc")[1])
-
     def test_where_a_finisher_may_have_ended_a_run_no_line_is_told(self) -> None:
         """The first run ends at once, and it is the third that is too long."""
-        board = BOARD + "fin: Miscellaneous.SiFiveTest @ sysbus 0x100000\n"
         program = ("0x001002B7", "0x00005337", "0x55530313", "0x0062A023", "0x0000006F")
         words = "".join(f"sysbus WriteDoubleWord {0x80000000 + 4 * n} {word}\n" for n, word in enumerate(program))
         runs = "cpu PC 0x80000000\n" + "emulation RunFor 6000\ncpu IsHalted true\n" * 2 + "emulation RunFor 6000\n"
         made = "mach create\nmachine LoadPlatformDescription @finisher.repl\n"
-        self.write({"finisher.repl": board, "s.resc": made + words + runs})
+        self.write({"finisher.repl": BOARD + FINISHER, "s.resc": made + words + runs})
         said = self.explained(3, "run", "s.resc")
         self.assertEqual(self.printed.splitlines()[-1], "error: s.resc:13: S14 lab time")
         self.assertEqual([line[:26] for line in said], ["lab: docs/SCRIPTS.md: the "])
@@ -281,42 +254,23 @@ class Refused(InFolder):
 
     def test_a_snapshot_that_is_too_large_is_told_where_it_is_saved(self) -> None:
         """A check writes none, and takes the line. The memory is full, so that the snapshot has all of it."""
-        board = BOARD.replace("0x10000 }", "0x4000000 }")
-        (self.folder / "full").write_bytes(b"x" * 2**24)
         loads = "".join(f"sysbus LoadBinary @full {0x80000000 + part * 2**24}\n" for part in range(4))
-        self.write({"board.repl": board, "s.resc": f"{MAKE}{loads}Save @kept\n"})
+        self.write({"full": b"x" * 2**24, "board.repl": BOARD.replace("0x10000 }", "0x4000000 }")})
+        self.write({"s.resc": f"{MAKE}{loads}Save @kept\n"})
         said = self.explained(3, "run", "s.resc")
         self.assertEqual(said[0], "lab:   s.resc:8: Save @kept")
         self.assertIn("A snapshot has the pages that the firmware has used", said[1])
 
-    def test_control_characters_are_not_printed(self) -> None:
-        self.write({"s.resc": "foo \x1b[2J\t\u202e.\n"})
-        self.assertEqual(self.explained(3, "run", "s.resc")[0], "lab:   s.resc:1: foo \\x1b[2J\t\\u202e.")
 
-
-class Table(InFolder):
-    """The rows of docs/RENODE.md, each by the program. tools/explain is a part of this test here, to take less time."""
-
-    def setUp(self) -> None:
-        super().setUp()
-        self.module = explain
-        self.addCleanup(os.chdir, os.getcwd())
-        os.chdir(self.folder)
-
-    def said_of(self, line: str, status: int) -> List[str]:
-        self.write({"s.resc": f"include @make.resc\n{line}\n"})
-        ran = subprocess.run([LAB, "run", "s.resc"], stdout=subprocess.PIPE, text=True)
-        self.assertEqual(ran.returncode, status, ran.stdout)
-        self.printed = ran.stdout
-        said = io.StringIO()
-        with contextlib.redirect_stderr(said):
-            self.module.explain(LAB, status, "s.resc", 0)
-        return said.getvalue().splitlines()
+class Table(Explained):
+    """The rows of docs/RENODE.md, each by the program."""
 
     def test_each_line_is_refused_so(self) -> None:
+        self.write({"board.repl": BOARD, "make.resc": MAKE})
         for line, cause, advice in TRIALS:
             with self.subTest(line=line):
-                said = self.said_of(line, 4 if cause == "4" else 3)
+                self.write({"s.resc": f"include @make.resc\n{line}\n"})
+                said = self.explained(4 if cause == "4" else 3, "run", "s.resc", "--until", "0")
                 advised = [row for row in said if row.startswith(f"lab: docs/RENODE.md: {advice}")]
                 self.assertEqual(len(advised), 1, said)
                 self.assertIn(f"lab:   s.resc:2: {line}", said)
@@ -339,85 +293,82 @@ class Table(InFolder):
 
     def test_what_is_said_to_do_is_taken(self) -> None:
         memory = "spare: Memory.MappedMemory @ sysbus 0x40021000 { size: 0x1000 }\n"
-        self.write({"s.resc": MAKE + INSTEAD, "byte": "A", "empty.resc": ""})
+        self.write({"board.repl": BOARD, "s.resc": MAKE + INSTEAD, "byte": "A", "empty.resc": ""})
         self.write({"tagged.repl": f'using "board.repl"\n{memory}'})
         self.assertEqual(self.explained(0, "run", "s.resc", "--until", "0.00001"), [])
 
 
-class Silent(InFolder):
+COMPRESSED = (
+    'lab: s.resc:4: a.elf has compressed instructions, and the processors of m0 have none (cpuType "{}"): each traps as'
+    " illegal. Build without the letter c, or add it to the cpuType"
+)
+FLOATING = (
+    "lab: s.resc:4: a.elf is built for registers of floating-point numbers, which no processor has: each such"
+    " instruction traps as illegal. Build with -mabi=ilp32 and without the letters f and d"
+)
+NO_PC = (
+    "lab: s.resc:4: m0 runs from address 0: LoadHEX, LoadBinary and machine Reset do not set pc, and no `cpu PC` with"
+    " an address follows"
+)
+NEVER = "lab: s.resc never runs: it has no `emulation RunFor` and no `start`"
+AT_0 = BOARD.replace("0x80000000", "0")
+LOAD = "sysbus LoadELF @a.elf\n"
+
+# lines of a script after those of a board, the flags of its ELF file, its platform file, and what is said
+SILENT: List[Tuple[str, int, str, List[str]]] = [
+    (LOAD + RUN, 1, BOARD, [COMPRESSED.format("rv32im")]),
+    (LOAD + RUN, 1, BOARD.replace("rv32im", "rv32ima_zicsr"), [COMPRESSED.format("rv32ima_zicsr")]),
+    (LOAD + RUN, 1, BOARD.replace("rv32im", "rv32imc"), []),
+    (LOAD + RUN, 1, BOARD.replace("rv32im", "rv32imac"), []),
+    (LOAD + RUN, 1, BOARD.replace("rv32im", "rv32imac_zicsr"), []),
+    (LOAD + RUN, 1, BOARD + 'cpu: { cpuType: "rv32imc" }\n', []),
+    (LOAD + RUN, 2, BOARD, [FLOATING]),
+    (LOAD + RUN, 4, BOARD, [FLOATING]),
+    (LOAD + RUN, 8, BOARD, []),
+    ("sysbus LoadHEX @high.hex\n" + RUN, 0, BOARD, [NO_PC]),
+    ("sysbus LoadBinary @a 0x80000000\ncpu PC\n" + RUN, 0, BOARD, [NO_PC]),
+    ("sysbus LoadHEX @high.hex\ncpu PC 0x80000000\n" + RUN, 0, BOARD, []),
+    ("cpu PC 0x80000000\nsysbus LoadBinary @a 0x80000000\n" + RUN, 0, BOARD, []),
+    (LOAD + "machine Reset\n" + RUN, 0, BOARD, [NO_PC]),
+    ("sysbus LoadHEX @low.hex\n" + RUN, 0, AT_0, []),
+    ("sysbus LoadBinary @a 0\n" + RUN, 0, AT_0, []),
+    (LOAD, 0, BOARD, [NEVER]),
+    (LOAD + 'emulation RunFor "0"\n', 0, BOARD, [NEVER]),
+    (LOAD + "Save @kept\n", 0, BOARD, []),
+    ("", 0, BOARD, []),
+]
+
+
+class Silent(Explained):
     """What is mostly a mistake, and silent."""
 
-    def warned(self, lines: str) -> List[str]:
-        self.write({"s.resc": MAKE + lines})
-        return self.explained(0, "run", "s.resc")
+    def test_what_is_said_after_0(self) -> None:
+        self.write({"a": b"\x6f\0\0\0", "high.hex": ":0200000480007A\n:0400000013000000E9\n:00000001FF\n"})
+        self.write({"low.hex": ":040000006F0000008D\n:00000001FF\n"})
+        for lines, flags, board, wanted in SILENT:
+            with self.subTest(lines=lines, flags=flags, board=board):
+                self.write({"s.resc": MAKE + lines, "a.elf": elf(flags, 0), "board.repl": board})
+                self.assertEqual(self.explained(0, "run", "s.resc"), wanted)
 
-    def image(self, flags: int) -> None:
-        (self.folder / "a.elf").write_bytes(elf(flags))
-
-    def test_compressed_instructions(self) -> None:
-        wanted = (
-            "lab: s.resc:4: a.elf has compressed instructions, and the processors of m0 have none (cpuType"
-            ' "rv32im"): each traps as illegal. Build without the letter c, or add it to the cpuType'
-        )
-        self.image(1)
-        lines = 'sysbus LoadELF @a.elf\nemulation RunFor "0.000001"\n'
-        self.assertEqual(self.warned(lines), [wanted])
-        for cpu_type in ("rv32imc", "rv32imac", "rv32imac_zicsr"):
-            self.write({"board.repl": BOARD.replace("rv32im", cpu_type)})
-            self.assertEqual(self.warned(lines), [])
-        self.write({"board.repl": BOARD.replace("rv32im", "rv32ima_zicsr")})
-        self.assertEqual(self.warned(lines), [wanted.replace("rv32im", "rv32ima_zicsr")])
-
-    def test_floating_point(self) -> None:
-        wanted = (
-            "lab: s.resc:4: a.elf is built for registers of floating-point numbers, which no processor has: each such"
-            " instruction traps as illegal. Build with -mabi=ilp32 and without the letters f and d"
-        )
-        lines = 'sysbus LoadELF @a.elf\nemulation RunFor "0.000001"\n'
-        for flags in (2, 4):
-            self.image(flags)
-            self.assertEqual(self.warned(lines), [wanted])
-        self.image(8)
-        self.assertEqual(self.warned(lines), [])
-
-    def test_no_pc(self) -> None:
-        (self.folder / "a").write_bytes(b"\x6f\0\0\0")
-        self.write({"a.hex": ":020000048000 7A\n:0400000013000000E9\n:00000001FF\n".replace(" ", "")})
-        wanted = (
-            "lab: s.resc:4: m0 runs from address 0: LoadHEX, LoadBinary and machine Reset do not set pc, and no"
-            " `cpu PC` with an address follows"
-        )
-        run = 'emulation RunFor "0.000001"\n'
-        self.assertEqual(self.warned("sysbus LoadHEX @a.hex\n" + run), [wanted])
-        self.assertEqual(self.warned("sysbus LoadBinary @a 0x80000000\ncpu PC\n" + run), [wanted])
-        self.assertEqual(self.warned("sysbus LoadHEX @a.hex\ncpu PC 0x80000000\n" + run), [])
-        self.assertEqual(self.warned("cpu PC 0x80000000\nsysbus LoadBinary @a 0x80000000\n" + run), [])
-        self.image(0)
-        lines = "sysbus LoadELF @a.elf\nmachine Reset\n" + run
-        self.assertEqual(self.warned(lines), [wanted])
-
-    def test_pc_0_is_meant(self) -> None:
-        (self.folder / "a").write_bytes(b"\x6f\0\0\0")
-        self.write({"a.hex": ":040000006F0000008D\n:00000001FF\n", "board.repl": BOARD.replace("0x80000000", "0")})
-        run = 'emulation RunFor "0.000001"\n'
-        self.assertEqual(self.warned("sysbus LoadHEX @a.hex\n" + run), [])
-        self.assertEqual(self.warned("sysbus LoadBinary @a 0\n" + run), [])
-
-    def test_no_run(self) -> None:
-        self.image(0)
-        wanted = ["lab: s.resc never runs: it has no `emulation RunFor` and no `start`"]
-        self.assertEqual(self.warned("sysbus LoadELF @a.elf\n"), wanted)
-        self.assertEqual(self.warned('sysbus LoadELF @a.elf\nemulation RunFor "0"\n'), wanted)
-        self.assertEqual(self.warned("sysbus LoadELF @a.elf\nSave @kept\n"), [])
-        self.assertEqual(self.warned(""), [])
+    def test_until_does_nothing_without_start(self) -> None:
+        self.write({"on.resc": "start\n"})
+        wanted = ["lab: --until does nothing: it says how far `start` runs, and s.resc has no `start`"]
+        for script, words, said in (
+            ("emulation RunFor 1\n", "--until 2", wanted),
+            ("emulation RunFor 1\n", "", []),
+            ("include @on.resc\n", "--until 2", []),
+        ):
+            with self.subTest(script=script, words=words):
+                self.write({"s.resc": script})
+                self.assertEqual(self.explained(0, "run", "s.resc", *words.split()), said)
 
     def test_other_words_are_none_of_a_script(self) -> None:
         """Nor is anything read where they are."""
-        said = subprocess.run([EXPLAIN, LAB, "0", "gen", "1", "1"], stderr=subprocess.PIPE, check=True)
+        said = subprocess.run([EXPLAIN, lab(), "0", "gen", "1", "1"], stderr=subprocess.PIPE, check=True)
         self.assertEqual(said.stderr, b"")
 
 
-class Started(InFolder):
+class Started(Explained):
     """./lab, around the program: what it prints and how it ends is the program's, and the rest is on the standard
     error."""
 
@@ -434,20 +385,20 @@ class Started(InFolder):
         (top / "tools" / "explain").symlink_to(EXPLAIN)
         (out / "lab_cli.sources").write_text("sum\n")
         for program in (top / "bin" / "lab", out / "lab_cli"):
-            program.symlink_to(LAB)
+            program.symlink_to(lab())
         self.lab = str(top / "lab")
 
     def ends(self, status: int, said: List[str], *words: str) -> None:
         """A run ends with this status, prints what the program does, and says these lines."""
-        program = subprocess.run([LAB, *words], cwd=self.folder, stdout=subprocess.PIPE)
+        program = subprocess.run([lab(), *words], cwd=self.folder, stdout=subprocess.PIPE)
         ran = subprocess.run([self.lab, *words], cwd=self.folder, stdout=subprocess.PIPE, stderr=subprocess.PIPE)
         self.assertEqual((ran.returncode, ran.stdout), (status, program.stdout))
         self.assertEqual(program.returncode, status)
         self.assertEqual(ran.stderr.decode().splitlines()[-len(said) :] if said else ran.stderr, said or b"")
 
     def test_statuses(self) -> None:
+        self.write({"board.repl": BOARD, "kept.resc": "Load @kept\n"})
         self.write({"done.resc": MAKE + "cpu PC\n", "refused.resc": "cpu\n", "missing.resc": "include @a\n"})
-        self.write({"kept.resc": "Load @kept\n"})
         self.ends(0, [], "run", "done.resc")
         self.ends(0, [], "check", "done.resc")
         self.ends(2, [], "run")
@@ -459,7 +410,7 @@ class Started(InFolder):
         self.ends(6, ["lab: kept is not there", "lab:   kept.resc:1: Load @kept"], "run", "kept.resc")
 
     def test_warnings(self) -> None:
-        (self.folder / "a.elf").write_bytes(elf(0))
+        self.write({"board.repl": BOARD, "a.elf": elf(0, 0)})
         self.write({"s.resc": MAKE + "sysbus LoadELF @a.elf\n"})
         wanted = ["lab: s.resc never runs: it has no `emulation RunFor` and no `start`"]
         self.ends(0, [], "run", "s.resc")

@@ -1,27 +1,31 @@
-"""Tries tools/reads and python/labtools/scripts/reads.py. Prints what is wrong and nothing else.
+"""Tries tools/reads and labtools/scripts/reads.py, a reader of scripts and platform files beside the program's own.
 
-    python/tests/test_reads.py
-
-Lists of files are worked out from the rules of docs/SCRIPTS.md and docs/PLATFORMS.md. Then each demo and each case is
-followed, and compared with the files that the program opens, as strace tells: the same ones in the same order, up to
-the first that is not there, and the same line refused where reads.py looks for its cause. The program is that of LAB,
-or else ./lab. Without strace this comparison is passed over, which is said.
+Lists of files are worked out from the rules of docs/SCRIPTS.md and docs/PLATFORMS.md. Then each demo, each case and a
+thousand damaged ones are followed, and compared with what the program does: the same line is refused where reads.py
+looks for its cause, and the same files are opened in the same order, up to the first that is not there. The program is
+that of LAB, or else the one that ./lab runs. strace tells which files it opens; where it is not installed the order is
+passed over.
 """
+import concurrent.futures
+import json
 import os
 import pathlib
+import random
 import re
 import shutil
 import subprocess
 import tempfile
+import time
 import unittest
-from typing import Dict, List, Optional, Tuple
+from dataclasses import dataclass
+from typing import Callable, Dict, Iterable, Iterator, List, Optional, Tuple
 
+from labdev import cases, mangle
+from labtools.boards import run_until
 from labtools.common.program import TOP
-from labdev import cases
-from labtools.scripts import reads
+from labtools.scripts import finishers, reads
+from tests.scripts import CPU, RAM, Files, InFolder, lab, put
 
-
-LAB = os.environ.get("LAB", str(TOP / "lab"))
 
 # the causes that reads.py does not look for
 LATER = re.compile(r"(S7|S8|S9|S14|S16|S20|P\d+|E\d+|H\d+) ")
@@ -30,7 +34,7 @@ BOARD = """\
 using "boards/base.repl"
 ram: Memory.MappedMemory @ sysbus 0x80000000 { size: 0x10000 }
 """
-PROJECT = {
+PROJECT: Files = {
     "test.resc": """\
 # two boards by one macro
 $platform?=@boards/m0.repl
@@ -79,91 +83,56 @@ MISSING  elf      m1.elf  test.resc:6 < test.resc:10 < test.resc:11
            test.resc:6: sysbus LoadELF $image
 """
 
+LOADED = {"place": "s.resc:1", "text": "Load @kept"}
+DATA = {
+    "files": [
+        {"path": "s.resc", "kind": "script", "is_there": True, "chain": [], "board": ""},
+        {"path": "kept", "kind": "snapshot", "is_there": False, "chain": [LOADED], "board": ""},
+    ],
+    "saves": [],
+    "refusal": None,
+}
 
-class InFolder(unittest.TestCase):
-    """A test with an empty folder of its own."""
+REFUSED = """\
+there    script   s.resc
+there    script   a.resc  s.resc:1
+refused  a.resc:2: S1 unknown command
+           s.resc:1: include @a.resc
+           a.resc:2: log\\x1b[1mLevel\t3
+"""
 
-    def setUp(self) -> None:
-        self.folder = pathlib.Path(tempfile.mkdtemp(prefix="reads-"))
-        self.addCleanup(shutil.rmtree, self.folder)
-
-    def write(self, files: Dict[str, str]) -> None:
-        for name, text in files.items():
-            path = self.folder / name
-            path.parent.mkdir(parents=True, exist_ok=True)
-            path.write_text(text)
-
-    def reads(self, *words: str) -> "subprocess.CompletedProcess[str]":
-        command = [str(TOP / "tools" / "reads"), *words]
-        return subprocess.run(command, cwd=self.folder, stdout=subprocess.PIPE, stderr=subprocess.PIPE, text=True)
+# files, the words for tools/reads, what it prints, and its status
+PRINTED: List[Tuple[Files, List[str], str, int]] = [
+    (PROJECT, ["test.resc"], LISTED, 1),
+    ({"s.resc": "# nothing\n"}, ["s.resc"], "there    script   s.resc\n", 0),
+    ({}, ["s.resc"], "MISSING  script   s.resc\n", 1),
+    ({}, ["\udcff\n.resc"], "MISSING  script   \\xff\\x0a.resc\n", 1),
+    ({"s.resc": "include @a.resc\n", "a.resc": "\n  log\x1b[1mLevel\t3\n"}, ["s.resc"], REFUSED, 1),
+    ({"s.resc": "Load @kept\n"}, ["--json", "s.resc"], json.dumps(DATA, indent=2) + "\n", 1),
+    ({}, ["/dev/null"], "there    script   /dev/null\n", 0),
+    ({}, [], "", 2),
+]
 
 
 class Printed(InFolder):
     """What tools/reads prints."""
 
-    maxDiff = None
+    def reads(self, *words: str) -> "subprocess.CompletedProcess[bytes]":
+        command = [str(TOP / "tools" / "reads"), *words]
+        return subprocess.run(command, cwd=self.folder, stdout=subprocess.PIPE, stderr=subprocess.PIPE)
 
-    def test_a_file_is_missing_two_using_deep(self) -> None:
-        self.write(PROJECT)
-        ran = self.reads("test.resc")
-        self.assertEqual((ran.stdout, ran.stderr, ran.returncode), (LISTED, "", 1))
+    def test_what_is_printed(self) -> None:
+        for files, words, wanted, status in PRINTED:
+            with self.subTest(words=words, wanted=wanted):
+                self.write(files)
+                ran = self.reads(*words)
+                self.assertEqual((ran.stdout.decode(), ran.returncode), (wanted, status))
+                self.assertEqual(ran.stderr != b"", status == 2 or words == ["/dev/null"])
+                for name in files:
+                    (self.folder / name).unlink()
 
-    def test_all_is_there(self) -> None:
-        self.write({"s.resc": "# nothing\n"})
-        ran = self.reads("s.resc")
-        self.assertEqual((ran.stdout, ran.returncode), ("there    script   s.resc\n", 0))
-
-    def test_the_script_is_missing(self) -> None:
-        ran = self.reads("s.resc")
-        self.assertEqual((ran.stdout, ran.returncode), ("MISSING  script   s.resc\n", 1))
-
-    def test_a_line_is_refused(self) -> None:
-        self.write({"s.resc": "include @a.resc\n", "a.resc": "\n  logLevel 3\n"})
-        wanted = """\
-there    script   s.resc
-there    script   a.resc  s.resc:1
-refused  a.resc:2: S1 unknown command
-           s.resc:1: include @a.resc
-           a.resc:2: logLevel 3
-"""
-        ran = self.reads("s.resc")
-        self.assertEqual((ran.stdout, ran.returncode), (wanted, 1))
-
-    def test_data(self) -> None:
-        self.write({"s.resc": "Load @kept\n"})
-        ran = self.reads("--json", "s.resc")
-        wanted = """\
-{
-  "files": [
-    {
-      "path": "s.resc",
-      "kind": "script",
-      "is_there": true,
-      "chain": [],
-      "board": ""
-    },
-    {
-      "path": "kept",
-      "kind": "snapshot",
-      "is_there": false,
-      "chain": [
-        {
-          "place": "s.resc:1",
-          "text": "Load @kept"
-        }
-      ],
-      "board": ""
-    }
-  ],
-  "saves": [],
-  "refusal": null
-}
-"""
-        self.assertEqual((ran.stdout, ran.returncode), (wanted, 1))
-
-    def test_words(self) -> None:
-        self.assertEqual(self.reads().returncode, 2)
-        self.assertIn("tools/reads [--json] SCRIPT", self.reads("--help").stdout)
+    def test_help_has_the_form(self) -> None:
+        self.assertIn(b"tools/reads [--json] SCRIPT", self.reads("--help").stdout)
 
 
 EQUIPPED = "mach create m0\nmachine LoadPlatformDescription @p.repl\n"
@@ -217,6 +186,7 @@ FOLLOWED: List[Tuple[str, List[str], Optional[str]]] = [
     ("mach create\nmach create machine-0\n", [], "2 S6 taken"),
     ("mach create\n" * 16 + "include @b\nmach create\n", ["b"], "18 S13 boards"),
     (EQUIPPED + "cpu PerformanceInMips 1000\n", ["p.repl"], None),
+    (EQUIPPED.replace("p.repl", "two") + "sysbus.cpu1 PerformanceInMips 501\n", ["two", "p.repl"], "3 S2 arguments"),
     (EQUIPPED.replace("p.repl", "two") + "x PerformanceInMips 501\n", ["two", "p.repl"], "3 S2 arguments"),
     ("mach create\nx PerformanceInMips 501\n", [], "2 S15 platform"),
     # times
@@ -228,58 +198,64 @@ FOLLOWED: List[Tuple[str, List[str], Optional[str]]] = [
     ("pause\n" * 100_000 + "include @b\n", [], "100001 S12 commands"),
     # snapshots, and the end
     ("Load @none\ninclude @b\n", ["none"], None),
+    ("Load @b/\nfoo\n", ["b/"], None),
+    ("include @b/.\nfoo\n", ["b/."], None),
     ("mach create\nLoad @none\n", [], "2 S21 occupied"),
     ("start\nLoad @none\n", [], "2 S21 occupied"),
     ("Save @none\nquit\ninclude @b\n", [], None),
 ]
 
 # scripts and platform files that stand in the folder of each
-BESIDE = {
+BESIDE: Files = {
     "b": "# nothing\n",
     "c": "",
     "$ORIGIN/a": "",
-    "two": 'using "p.repl"\ncpu1 : CPU.RiscV32 @ sysbus { cpuType: "rv32im" } // x: CPU.RiscV32\n x: CPU.RiscV32\n',
-    "p.repl": 'ram: Memory.MappedMemory @ sysbus 0 { size: 0x1000 }\ncpu: CPU.RiscV32 @ sysbus { cpuType: "rv32im" }\n',
+    "two": 'using "p.repl"\ncpu1 : CPU.RiscV32 @ sysbus // x: CPU.RiscV32\n    cpuType: "rv32im"\n'
+    "    privilegeArchitecture: CPU.RiscV32\n",
+    "p.repl": RAM + CPU,
 }
 
 
-class Followed(InFolder):
-    """The rules of scripts, each by a script of its own."""
+class Following(InFolder):
+    """Scripts that are followed in a folder with some files."""
+
+    def setUp(self) -> None:
+        super().setUp()
+        self.write(BESIDE)
+
+    def follow(self, script: str, **files: str) -> reads.Reading:
+        self.write({**files, "s.resc": script})
+        return reads.follow("s.resc", self.folder)
+
+    def told(self, script: str, **files: str) -> Optional[Tuple[str, str]]:
+        """The place and the cause of a refusal."""
+        refusal = self.follow(script, **files).refusal
+        return (refusal.place, refusal.cause) if refusal else None
+
+
+class Followed(Following):
+    """The rules of scripts, each by a script of its own, which the program takes likewise."""
 
     def test_rules(self) -> None:
-        self.write(BESIDE)
         for script, files, refused in FOLLOWED:
-            with self.subTest(script=script):
-                (self.folder / "s.resc").write_bytes(script.encode())
-                reading = reads.follow("s.resc", self.folder)
+            with self.subTest(script=script[:200]):
+                reading = self.follow(script)
                 self.assertEqual([file.path for file in reading.files], ["s.resc"] + files)
                 fault = reading.refusal
-                told = f"{fault.place.split(':')[1]} {fault.cause}" if fault else None
-                self.assertEqual(told, refused)
+                self.assertEqual(f"{fault.place.split(':')[1]} {fault.cause}" if fault else None, refused)
+                self.assertEqual(difference("s.resc", self.folder), "")
 
     def test_numbers_are_as_long_as_lab_takes_them(self) -> None:
         """Zeros before a number, as many as there are, are none of it; 2^32 is too much, however it is written."""
         zeros = "0" * 5000
-        self.write({**BESIDE, "s.resc": EQUIPPED})
-        for number, is_taken in (
-            (f"{zeros}4294967295", True),
-            (f"0x{zeros}FFFFFFFF", True),
-            (zeros, True),
-            (f"{zeros}4294967296", False),
-            (f"0x{zeros}100000000", False),
-            ("9" * 5000, False),
-            ("4294967296", False),
-        ):
+        taken = f"{zeros}4294967295", f"0x{zeros}FFFFFFFF", zeros
+        for number in (*taken, f"{zeros}4294967296", f"0x{zeros}100000000", "9" * 5000, "4294967296"):
             with self.subTest(digits=len(number), last=number[-12:]):
-                self.write({"n.resc": f"include @s.resc\nmach set {zeros}\nsysbus ReadDoubleWord {number}\n"})
-                fault = reads.follow("n.resc", self.folder).refusal
-                told = fault and (fault.place, fault.cause)
-                self.assertEqual(told, None if is_taken else ("n.resc:3", "S2 arguments"))
+                told = self.told(f"{EQUIPPED}mach set {zeros}\nsysbus ReadDoubleWord {number}\n")
+                self.assertEqual(told, None if number in taken else ("s.resc:4", "S2 arguments"))
 
     def test_records(self) -> None:
-        self.write(BESIDE)
-        self.write({"s.resc": EQUIPPED + "$a=@c\nsysbus LoadBinary $a 0\n"})
-        files = reads.files_read(pathlib.Path("s.resc"), self.folder)
+        files = self.follow(EQUIPPED + "$a=@c\nsysbus LoadBinary $a 0\n").files
         told = [(file.path, file.kind, file.asked_by, file.is_there, file.board) for file in files]
         wanted = [
             ("s.resc", "script", "", True, ""),
@@ -292,88 +268,215 @@ class Followed(InFolder):
 
     def test_platform_files(self) -> None:
         text = '/* using "a"\nusing "b" */\n using "c"\nx: "using"\nusing"d"\t// using "e"\n/**/using "f"\n'
-        text += 'using "g"\r\n'
-        self.write({**BESIDE, "s.resc": EQUIPPED, "p.repl": text, "d": 'using "b"\n', "g": ""})
-        reading = reads.follow("s.resc", self.folder)
+        text += 'using "g"\r\nram: {\nusing "h"\n}\n'
+        self.write({"p.repl": text, "d": 'using "b"\n', "g": ""})
+        reading = self.follow(EQUIPPED)
         self.assertEqual([file.path for file in reading.files[2:]], ["d", "b", "g"])
 
     def test_a_platform_file_that_names_itself(self) -> None:
-        self.write({"s.resc": EQUIPPED, "p.repl": 'using "p.repl"\n'})
-        reading = reads.follow("s.resc", self.folder)
-        self.assertEqual(len(reading.files), 10)
-        assert reading.refusal
-        self.assertEqual((reading.refusal.place, reading.refusal.cause), ("p.repl:1", "S11 depth"))
+        self.write({"p.repl": 'using "p.repl"\n'})
+        self.assertEqual(len(self.follow(EQUIPPED).files), 10)
+        self.assertEqual(self.told(EQUIPPED), ("p.repl:1", "S11 depth"))
 
     def test_files_that_are_no_text_or_too_large(self) -> None:
-        self.write({"s.resc": "include @a\n", "large": ""})
-        (self.folder / "a").write_bytes(b"#\n# \xff\n")
-        fault = reads.follow("s.resc", self.folder).refusal
-        assert fault
-        self.assertEqual((fault.place, fault.cause), ("a:2", "S18 not utf-8"))
+        self.write({"a": b"#\n# \xff\n", "large": ""})
+        self.assertEqual(self.told("include @a\n"), ("a:2", "S18 not utf-8"))
         os.truncate(self.folder / "large", 16 * 2**20 + 1)
         fault = reads.follow("large", self.folder).refusal
-        assert fault
-        self.assertEqual((fault.place, fault.cause), ("large:0", "S19 size"))
+        self.assertEqual(fault and (fault.place, fault.cause), ("large:0", "S19 size"))
+
+    def test_what_a_pipe_holds_is_not_known(self) -> None:
+        """Nothing is said of what follows, which may depend on it, and nothing is taken from the pipe."""
+        os.mkfifo(self.folder / "pipe")
+        for script, unseen in (
+            ("include @pipe\ninclude $x\n", "pipe"),
+            ("Load @pipe\nmach create\n", "pipe"),
+            (EQUIPPED.replace("p.repl", "pipe") + "cpu PerformanceInMips 501\n", ""),
+            (EQUIPPED + "sysbus LoadELF @pipe\n", ""),
+        ):
+            with self.subTest(script=script):
+                reading = self.follow(script)
+                self.assertEqual((reading.files[-1].path, reading.refusal, reading.unseen), ("pipe", None, unseen))
+
+    def test_long_texts_are_read_in_a_moment(self) -> None:
+        for name, text in (
+            ("comments", "/*" * 2**20),
+            ("word", "x: CPU.RiscV32\n    " + "a" * 2**20),
+            ("blanks", "x:" + " " * 2**20 + "{" + "a " * 2**20),
+            ("quotes", 'x: { a: "' * 2**17),
+        ):
+            with self.subTest(text=name):
+                begun = time.process_time()
+                self.assertEqual(self.told(EQUIPPED, **{"p.repl": text}), None)
+                self.assertLess(time.process_time() - begun, 20)
 
     def test_what_is_saved(self) -> None:
-        self.write({"s.resc": "Save @kept\nSave @none/kept\n"})
-        saves = reads.follow("s.resc", self.folder).saves
+        saves = self.follow("Save @kept\nSave @none/kept\n").saves
         self.assertEqual([(file.path, file.is_there) for file in saves], [("kept", True), ("none/kept", False)])
+
+    def test_finishers(self) -> None:
+        finisher = "fin: Miscellaneous.SiFiveTest @ sysbus 0x100000\n"
+        self.write({"two": 'using "p.repl"\n' + finisher, "not": f"/*\n{finisher}*/\n{RAM}{CPU}"})
+        for platform, has_one in (("p.repl", False), ("two", True), ("not", False)):
+            with self.subTest(platform=platform):
+                self.write({"s.resc": EQUIPPED.replace("p.repl", platform) + "Save @kept\n", "on.resc": "Load @kept\n"})
+                subprocess.run([lab(), "run", "s.resc"], cwd=self.folder, check=True)
+                self.assertEqual(finishers.has_finisher("s.resc", self.folder), has_one)
+                self.assertEqual(finishers.has_finisher("on.resc", self.folder), has_one)
+
+    def test_commands_have_their_variables_replaced(self) -> None:
+        """Macros and included files stand in their places, and nothing after `quit`."""
+        self.write({"i.resc": "$n=old\nmach create $n\n"})
+        script = '$p=@p.repl\nmacro m\n"""\nmachine LoadPlatformDescription $p\n"""\ninclude @i.resc\nrunMacro $m\n'
+        ends: Dict[str, List[str]] = {
+            "": [],
+            "quit\npause\n": [],
+            "x\npause\n": ["x"],
+            "macro n\n": ['macro n\n"""'],
+            "$a=$b\n": ["$a=$b"],
+        }
+        for end, last in (*ends.items(), ("include @none\n", ["include @none"])):
+            with self.subTest(end=end):
+                commands = [command.text for command in self.follow(script + end).commands]
+                self.assertEqual(commands, ["mach create old", "machine LoadPlatformDescription @p.repl", *last])
+
+    def test_macros_that_would_never_end(self) -> None:
+        """Eight macros of ten lines, each of which runs the next: lab takes 100,000 commands of 10^8."""
+        macros = [f'macro m{n}\n"""\n' + f"runMacro $m{n + 1}\n" * 10 + '"""\n' for n in range(1, 8)]
+        script = "".join(macros) + 'macro m8\n"""\n' + "pause\n" * 10 + '"""\nrunMacro $m1\n'
+        self.assertEqual(self.told(script), ("s.resc:90", "S12 commands"))
+        self.assertEqual(difference("s.resc", self.folder), "")
+        with self.assertRaisesRegex(run_until.NoRun, "lab refused .*/s.resc:90: S12 commands"):
+            run_until.steps_of(str(self.folder / "s.resc"))
+
+
+# scripts that go on from the snapshot of a board `a` of two processors and a board `b` without a platform, and how they
+# are refused
+RESUMED: List[Tuple[str, Optional[str]]] = [
+    ("mach set a\ncpu1 PerformanceInMips 501\n", "3 S2 arguments"),
+    ("mach set a\ncpu1 PerformanceInMips 500\n", None),
+    ("mach set a\nmachine LoadPlatformDescription @p.repl\n", "3 S15 platform"),
+    ("mach set b\nmachine LoadPlatformDescription @p.repl\nstart\n", None),
+    ("mach set b\nshowAnalyzer uart\n", "3 S15 platform"),
+    ("start\n", "2 S15 platform"),
+    ("emulation CreateCANHub b\n", "2 S6 taken"),
+    ("mach create\n" * 15, "16 S13 boards"),
+]
+
+
+class Resumed(Following):
+    """Scripts that begin with the snapshot of another one."""
+
+    def test_rules(self) -> None:
+        self.write({"keep.resc": "mach create a\nmachine LoadPlatformDescription @two\nmach create b\nSave @kept\n"})
+        subprocess.run([lab(), "run", "keep.resc"], cwd=self.folder, check=True)
+        for script, refused in RESUMED:
+            with self.subTest(script=script):
+                told = self.told("Load @kept\n" + script)
+                self.assertEqual(told, ("s.resc:" + refused.split()[0], refused.split(" ", 1)[1]) if refused else None)
+                self.assertEqual(difference("s.resc", self.folder), "")
 
 
 # ---- the program itself
 
+SECONDS = 60
 # Cases with files of more bytes are passed over: they are of the limits, which `Followed` tries, and take minutes.
 LARGE = 500_000
+DAMAGED = 1000
 
 OPENED = re.compile(r'open(?:at)?\((?:AT_FDCWD, )?"((?:[^"\\]|\\.)*)", O_RDONLY\|O_NOCTTY.*')
+REFUSED_AT = re.compile(r"error: (.*:\d+): (.*)", re.DOTALL)
+
+
+@dataclass
+class Ended:
+    """How the program has ended, the place and the cause of a refusal, and what it has opened, where that is told."""
+
+    status: int
+    refusal: Optional[Tuple[str, str]]
+    opened: Optional[List[str]]
+
+
+def ended(script: str, folder: pathlib.Path, word: str, is_traced: bool) -> Ended:
+    """How the program ends that checks or runs a script."""
+    with tempfile.NamedTemporaryFile("r", prefix="lab-trace-") as trace:
+        tracer = ["strace", "-f", "-qq", "-s", "4096", "-e", "trace=open,openat", "-o", trace.name]
+        words = [*(tracer if is_traced else []), lab(), word, script]
+        ran = subprocess.run(words, cwd=folder, stdin=subprocess.DEVNULL, stdout=subprocess.PIPE, timeout=SECONDS)
+        names = [cases.unescaped(name.encode()).decode() for name in OPENED.findall(trace.read())]
+    last = ran.stdout.decode(errors="surrogateescape").rstrip("\n").rpartition("\n")[2]
+    found = REFUSED_AT.fullmatch(last) if ran.returncode == 3 else None
+    return Ended(ran.returncode, (found[1], found[2]) if found else None, names if is_traced else None)
+
+
+def difference(script: str, folder: pathlib.Path, is_traced: bool = False) -> str:
+    """How the reading of a script differs from what the program does, or nothing. What depends on the lab time is seen
+    by a run alone."""
+    reading = reads.follow(script, folder)
+    told = (reading.refusal.place, reading.refusal.cause) if reading.refusal else None
+    by_time = told is not None and told[1] == "S21 occupied"
+    program = ended(script, folder, "run" if by_time else "check", is_traced)
+    paths = [file.path for file in reading.files]
+    there = [file.is_there for file in reading.files]
+    if program.refusal and LATER.match(program.refusal[1]):
+        is_other = told is not None and told[0] == program.refusal[0] and told != program.refusal
+        is_same = is_reached(*program.refusal, script, folder) and not is_other
+        paths = paths if program.opened is None else paths[: len(program.opened)]
+    elif program.status in (4, 6):
+        is_same = not all(there)
+        paths = paths[: [*there, False].index(False) + 1]
+    else:
+        is_same = program.status in (0, 3) and told == program.refusal and all(there)
+    is_same = is_same and program.opened in (None, paths)
+    return "" if is_same else f"{program}, but {told} after {paths}"
+
+
+def is_reached(place: str, cause: str, script: str, folder: pathlib.Path) -> bool:
+    """Whether a reading comes to a line that the program refuses by a cause that is not looked for."""
+    reading = reads.follow(script, folder, watched=place)
+    is_read = place.rpartition(":")[0] in [file.path for file in reading.files]
+    return is_read if cause.startswith("P") else bool(reading.scenes)
+
+
+def differences(find: Callable[[pathlib.Path, int], Iterable[str]], count: int) -> List[str]:
+    """What is found by so many trials, as many at a time as there are processors, each in a folder of its own."""
+
+    def found(number: int) -> List[str]:
+        with tempfile.TemporaryDirectory(prefix="lab-reads-") as name:
+            return [f"{number}: {told}" for told in find(pathlib.Path(name), number) if told]
+
+    with concurrent.futures.ThreadPoolExecutor(len(os.sched_getaffinity(0))) as workers:
+        return [told for trial in workers.map(found, range(count)) for told in trial]
 
 
 @unittest.skipUnless(shutil.which("strace"), "the files that the program opens, without strace")
 class Opened(InFolder):
     """The files that the program opens."""
 
-    def opened(self, script: str, folder: pathlib.Path, word: str = "check") -> Tuple[List[str], int, str]:
-        """What the program opens when it checks or runs a script, its status, and its last line."""
-        trace = self.folder / "trace"
-        command = ["strace", "-f", "-qq", "-s", "4096", "-e", "trace=open,openat", "-o", str(trace)]
-        ran = subprocess.run(command + [LAB, word, script], cwd=folder, stdout=subprocess.PIPE)
-        names = [cases.unescaped(name.encode()).decode() for name in OPENED.findall(trace.read_text())]
-        last = ran.stdout.decode().splitlines()[-1:]
-        return names, ran.returncode, last[0] if last else ""
-
-    def compare(self, script: str, folder: pathlib.Path) -> None:
-        reading = reads.follow(script, folder)
-        by_time = reading.refusal is not None and reading.refusal.cause == "S21 occupied"
-        names, status, last = self.opened(script, folder, "run" if by_time else "check")
-        files = [file.path for file in reading.files]
-        there = [file.is_there for file in reading.files] + [False]
-        if status == 0:
-            self.assertEqual((names, reading.refusal), (files, None))
-        elif status == 3:
-            self.compare_refused(names, last, reading)
-        else:
-            self.assertIn(status, (4, 6))
-            self.assertEqual(names, files[: there.index(False) + 1])
-            self.assertFalse(there[len(names) - 1])
-
-    def compare_refused(self, names: List[str], last: str, reading: reads.Reading) -> None:
-        """A refused line is that of the reading, unless its cause is one that is not looked for."""
-        files = [file.path for file in reading.files]
-        told = re.fullmatch(r"error: (.*:\d+): (.*)", last)
-        assert told, last
-        place, cause = told.groups()
-        if LATER.match(cause):
-            self.assertEqual(names, files[: len(names)])
-            return
-        fault = reading.refusal
-        self.assertEqual(names, files)
-        self.assertEqual((fault.place, fault.cause) if fault else None, (place, cause))
-
     def test_demos(self) -> None:
-        for script in sorted(TOP.glob("demo/*/*.resc")):
-            with self.subTest(script=script.name):
-                self.compare(str(script.relative_to(TOP)), TOP)
+        scripts = [str(path.relative_to(TOP)) for path in sorted(TOP.glob("demo/*/*.resc"))]
+        found = differences(lambda _, number: [difference(scripts[number], TOP, True)], len(scripts))
+        self.assertEqual(found, [])
+
+    def test_cases(self) -> None:
+        paths = sorted(TOP.glob("cases/*.case"))
+        self.assertGreater(len(paths), 50)
+        self.assertEqual(differences(lambda folder, number: self.of_case(paths[number], folder), len(paths)), [])
+
+    def of_case(self, path: pathlib.Path, folder: pathlib.Path) -> Iterator[str]:
+        for number, run in enumerate(cases.runs_of(path)):
+            script = self.script_of(run)
+            if script is None:
+                continue
+            shutil.rmtree(folder)
+            put(folder, run.files)
+            told = difference(script, folder, True)
+            yield f"{path.stem}, run {number}: {told}" if told else ""
+            if b"Save " in run.files[script]:
+                subprocess.run([lab(), "run", script], cwd=folder, stdout=subprocess.DEVNULL)
+                run.files.update(
+                    {str(it.relative_to(folder)): it.read_bytes() for it in folder.rglob("*") if it.is_file()}
+                )
 
     def script_of(self, run: cases.Run) -> Optional[str]:
         """The script that is run over these files, or None where that is none or a file is large."""
@@ -381,38 +484,44 @@ class Opened(InFolder):
         is_large = any(len(held) > LARGE for held in run.files.values())
         return scripts[0] if scripts and run.words[0] in ("run", "check") and not is_large else None
 
-    def put(self, folder: pathlib.Path, files: cases.Files) -> None:
-        for name, held in files.items():
-            (folder / name).parent.mkdir(parents=True, exist_ok=True)
-            (folder / name).write_bytes(held)
-
-    def keep(self, script: str, folder: pathlib.Path, files: cases.Files) -> None:
-        """Adds what a run of the script keeps to the files."""
-        subprocess.run([LAB, "run", script], cwd=folder, stdout=subprocess.DEVNULL)
-        found = [path for path in folder.rglob("*") if path.is_file()]
-        files.update({str(path.relative_to(folder)): path.read_bytes() for path in found})
-
-    def compare_run(self, run: cases.Run) -> None:
-        script = self.script_of(run)
-        if script is None:
-            return
-        with tempfile.TemporaryDirectory(dir=self.folder) as name:
-            folder = pathlib.Path(name)
-            self.put(folder, run.files)
-            self.compare(script, folder)
-            if b"Save " in run.files[script]:
-                self.keep(script, folder, run.files)
-
-    def test_cases(self) -> None:
-        for path in sorted(TOP.glob("cases/*.case")):
-            for number, run in enumerate(cases.runs_of(path)):
-                with self.subTest(case=path.stem, number=number):
-                    self.compare_run(run)
-
     def test_a_project_with_missing_files(self) -> None:
         """Each file of a project is taken away in turn, the last one first."""
-        self.write({**PROJECT, "boards/uart.repl": BESIDE["p.repl"], "boards/base.repl": 'using "boards/uart.repl"\n'})
+        self.write({**PROJECT, "boards/uart.repl": RAM + CPU, "boards/base.repl": 'using "boards/uart.repl"\n'})
         for file in reversed(reads.files_read("test.resc", self.folder)):
             with self.subTest(without=file.path):
                 (self.folder / file.path).unlink(missing_ok=True)
-                self.compare("test.resc", self.folder)
+                self.assertEqual(difference("test.resc", self.folder, True), "")
+
+
+class Damaged(unittest.TestCase):
+    """A thousand scripts of cases and demos that are damaged, or whose platform files or other files are."""
+
+    maxDiff = None
+
+    def test_damaged_files_are_read_as_the_program_does(self) -> None:
+        laboratories = mangle.laboratories()
+
+        def find(folder: pathlib.Path, number: int) -> Iterator[str]:
+            chance = random.Random(f"reads {number}")
+            laboratory = chance.choice(laboratories)
+            script = next(word for word in laboratory.words[1:] if word in laboratory.files)
+            held = self.damaged(laboratory.files, chance)
+            put(folder, {**laboratory.files, **held})
+            told = difference(script, folder)
+            yield f"{laboratory.name}, {', '.join(held)}: {told}" if told else ""
+
+        self.assertEqual("\n".join(differences(find, DAMAGED)), "")
+
+    def damaged(self, files: cases.Files, chance: random.Random) -> cases.Files:
+        """One of the files, mostly a text, with a byte or with lines that are damaged."""
+        texts = [name for name in files if name.endswith((".resc", ".repl"))]
+        name = chance.choice(texts if texts and chance.random() < 0.9 else list(files))
+        held = files[name]
+        if chance.random() < 0.5 and held:
+            return {name: mangle.damaged(held, chance.randrange(len(held)), chance.choice(mangle.WAYS), chance)}
+        lines = held.split(b"\n")
+        for _ in range(chance.randrange(1, 4)):
+            at, other = chance.randrange(len(lines)), chance.randrange(len(lines))
+            lines[at : at + chance.randrange(2)] = [lines[other]] * chance.randrange(2)
+            lines = lines or [b""]
+        return {name: b"\n".join(lines)}

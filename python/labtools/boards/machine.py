@@ -2,8 +2,8 @@
 from dataclasses import dataclass
 from typing import Any, Dict, List, Optional, Set, Tuple
 
+from labtools.boards import references
 from labtools.boards.snapshot import PAGE
-from labtools.scripts import references
 
 
 # Registers of the processor by their ABI names, in order.

@@ -1,8 +1,6 @@
 """What can be seen of a refused line besides its cause: which entries the board has in place of one that it has not,
 where memories are, what stands in a file. It reads the script and what it names, and runs no board."""
-import functools
 import os
-import pathlib
 import re
 import struct
 from dataclasses import dataclass
@@ -12,45 +10,37 @@ from labtools.boards import snapshot
 from labtools.scripts import cures
 from labtools.scripts import mistakes_of_words
 from labtools.scripts import reads
+from labtools.scripts import repl
 from labtools.scripts import resc
 from labtools.scripts.mistakes_of_words import listed, near
-from labtools.scripts.parts import KINDS, Part, parts_of
+from labtools.scripts.parts import KINDS, Part, Parts
 from labtools.scripts.reads import Board, Scene
 from labtools.scripts.refusals import Refused
 
 
 PLATFORMS = cures.Table("docs/PLATFORMS.md", "| Type | Attributes | Bytes without a range; the least |", 0, 1, 1)
-TYPE = re.compile(r"\w+[ \t]*:[ \t]*([\w.]+)")
-ATTRIBUTE = re.compile(r"(\w+)[ \t]*:")
 LINKED = ("uart", "can")
 
 
 @dataclass(frozen=True)
 class Sight:
-    """A refused line as it was taken once, with the program that tells what boards are made of."""
+    """A refused line as it was taken once, and what boards are made of."""
 
-    program: str
-    refused: Refused
     scene: Scene
+    parts: Parts
 
     @property
     def words(self) -> List[str]:
         return self.scene.words
 
-    def parts(self, board: Optional[Board]) -> List[Part]:
-        return parts_in(self.program, board) if board else []
+    @property
+    def board(self) -> Optional[Board]:
+        return self.scene.board
 
-
-def parts_in(program: str, board: Board) -> List[Part]:
-    """The entries of a board, which are asked for once."""
-    files = tuple(file.path for file in board.files if file.kind == "platform")
-    return parts_of(program, board) if board.plan is not None or not files else parts_by_file(program, files)
-
-
-@functools.lru_cache(maxsize=None)
-def parts_by_file(program: str, files: Tuple[str, ...]) -> List[Part]:
-    read = [reads.FileRead(path, "platform", True, ()) for path in files]
-    return parts_of(program, Board("", True, files=read))
+    @property
+    def own_parts(self) -> List[Part]:
+        """The entries of the selected board."""
+        return self.parts.of(self.scene.board)
 
 
 # ---- boards and names
@@ -97,8 +87,8 @@ def hub_of(words: Sequence[str]) -> Optional[str]:
 
 def name(sight: Sight) -> List[str]:
     """A name that the board has not, with those that it has; or a hub that is not there."""
-    board = sight.scene.board
-    parts = sight.parts(board)
+    board = sight.board
+    parts = sight.parts.of(board)
     if board is None or not parts:
         return []
     asked, kinds = asked_entry(sight.words)
@@ -112,13 +102,13 @@ def name(sight: Sight) -> List[str]:
 
 def owners(sight: Sight, asked: str) -> List[str]:
     """The other boards that have an entry of a name."""
-    boards = [board for board in sight.scene.boards if asked in [part.name for part in sight.parts(board)]]
+    boards = [board for board in sight.scene.boards if asked in [part.name for part in sight.parts.of(board)]]
     return [f'`{boards[0].name}` has one: `mach set "{boards[0].name}"` selects that board'] if boards else []
 
 
 def kind(sight: Sight) -> List[str]:
     asked, kinds = asked_entry(sight.words)
-    part = next((part for part in sight.parts(sight.scene.board) if part.name == asked), None)
+    part = next((part for part in sight.own_parts if part.name == asked), None)
     if part is None:
         return []
     hub = hub_of(sight.words) or ""
@@ -130,7 +120,7 @@ def kind(sight: Sight) -> List[str]:
 
 
 def connected(sight: Sight) -> List[str]:
-    board = sight.scene.board
+    board = sight.board
     asked, _ = asked_entry(sight.words)
     joined = sight.scene.joined.get((board.name, asked)) if board else None
     return [f"{joined[1]} has joined `{asked}` to `{joined[0]}`"] if joined else []
@@ -176,7 +166,7 @@ def segments_of(content: bytes) -> Iterator[Tuple[int, int]]:
 def loaded(words: Sequence[str]) -> List[Tuple[int, int]]:
     """The addresses and the sizes of what a command loads, of which those of an Intel HEX file are not known."""
     path = resc.path_of(words[2]) if len(words) > 2 else None
-    content = reads.content_of(pathlib.Path(path)) if path else b""
+    content = reads.content_of(path) if path else b""
     if words[1] == "LoadBinary" and len(words) > 3:
         return [(resc.number_of(words[3]) or 0, len(content))]
     is_elf = words[1] == "LoadELF" and len(content) >= 52
@@ -184,7 +174,7 @@ def loaded(words: Sequence[str]) -> List[Tuple[int, int]]:
 
 
 def address(sight: Sight) -> List[str]:
-    words, parts = sight.words, sight.parts(sight.scene.board)
+    words, parts = sight.words, sight.own_parts
     if len(words) < 3 or not parts:
         return []
     if words[1].startswith("Load"):
@@ -193,7 +183,7 @@ def address(sight: Sight) -> List[str]:
     number = resc.number_of(words[2])
     if number is None:
         return []
-    step = 2 if words[1] == "PC" and sight.scene.board and sight.scene.board.has_compressed else 4
+    step = 2 if words[1] == "PC" and sight.board and sight.board.has_compressed else 4
     if number % step:
         return [f"0x{number:08x} is no multiple of {step}: 0x{number - number % step:08x} is the one before it"]
     fault = range_fault(number, 4, parts) if words[0] == "sysbus" else None
@@ -208,7 +198,7 @@ def form_of_image(sight: Sight) -> List[str]:
     path = resc.path_of(sight.words[2]) if len(sight.words) > 2 else None
     if not path:
         return []
-    content = reads.content_of(pathlib.Path(path))
+    content = reads.content_of(path)
     if not content:
         return [f"{path} is empty"] if os.path.isfile(path) else []
     is_elf, is_hex = content.startswith(b"\x7fELF"), content.startswith(b":")
@@ -227,7 +217,7 @@ def large(sight: Sight) -> List[str]:
 def no_snapshot(sight: Sight) -> List[str]:
     path = resc.path_of(sight.words[-1]) or ""
     try:
-        snapshot.read(reads.content_of(pathlib.Path(path)))
+        snapshot.read(reads.content_of(path))
     except snapshot.NoSnapshot as fault:
         return [f"{path}: {fault}"]
     return []
@@ -235,7 +225,7 @@ def no_snapshot(sight: Sight) -> List[str]:
 
 def bad_text(refused: Refused) -> List[str]:
     """What may have written a file that is no UTF-8."""
-    content = reads.content_of(pathlib.Path(refused.place.rpartition(":")[0]))
+    content = reads.content_of(refused.place.rpartition(":")[0])
     if content.startswith((b"\xff\xfe", b"\xfe\xff")):
         return ["the file is UTF-16"]
     try:
@@ -254,17 +244,20 @@ def attributes_of(type_name: str) -> List[str]:
     return [name for name in re.findall(r"`(\w+)`(?:[:,])", rows.get(type_name, ""))]
 
 
+def types() -> List[str]:
+    return [row[0].strip("`") for row in cures.rows_of(PLATFORMS)]
+
+
 def other_type(refused: Refused) -> List[str]:
-    match = TYPE.match(refused.text)
-    nearly = near(match[1], [row[0].strip("`") for row in cures.rows_of(PLATFORMS)]) if match else None
-    return [f"`{match[1]}` is nearly `{nearly}`"] if match and nearly else []
+    entries = [item for item in repl.items_of(refused.text) if isinstance(item, repl.Entry)]
+    pairs = [(entry.type_name, near(entry.type_name, types())) for entry in entries[:1]]
+    return [f"`{own}` is nearly `{nearly}`" for own, nearly in pairs if nearly]
 
 
 def other_attribute(refused: Refused) -> List[str]:
     """An attribute that is nearly one of any type: its own line need not say of which it is."""
-    rows = [row[0].strip("`") for row in cures.rows_of(PLATFORMS)]
-    known = [attribute for type_name in rows for attribute in attributes_of(type_name)]
-    asked = [found for found in ATTRIBUTE.findall(refused.text) if found not in known]
+    known = [attribute for type_name in types() for attribute in attributes_of(type_name)]
+    asked = [found for found in repl.attributes_in(refused.text) if found not in known]
     pairs = [(found, near(found, known)) for found in asked]
     return [f"`{found}` is nearly `{nearly}`" for found, nearly in pairs if nearly][:1]
 
@@ -291,12 +284,12 @@ OF_BOARDS: Dict[str, Callable[[Sight], List[str]]] = {
 }
 
 
-def seen_once(program: str, refused: Refused, scene: Scene) -> List[str]:
+def seen_once(code: str, scene: Scene, parts: Parts) -> List[str]:
     """What can be seen where a line is taken once."""
-    if refused.code in OF_WORDS:
-        return OF_WORDS[refused.code](scene)
-    look = form_of_image if refused.code[0] in "EH" else OF_BOARDS.get(refused.code)
-    return look(Sight(program, refused, scene)) if look else []
+    if code in OF_WORDS:
+        return OF_WORDS[code](scene)
+    look = form_of_image if code[0] in "EH" else OF_BOARDS.get(code)
+    return look(Sight(scene, parts)) if look else []
 
 
 def seen(program: str, refused: Refused) -> Tuple[reads.Chain, List[str]]:
@@ -304,5 +297,6 @@ def seen(program: str, refused: Refused) -> Tuple[reads.Chain, List[str]]:
     that lead to it then."""
     if refused.code in OF_LINES:
         return refused.chain, OF_LINES[refused.code](refused)
-    found = ((scene.chain, seen_once(program, refused, scene)) for scene in refused.scenes)
+    parts = Parts(program)
+    found = ((scene.chain, seen_once(refused.code, scene, parts)) for scene in refused.scenes)
     return next(((chain, told) for chain, told in found if told), (refused.chain, []))

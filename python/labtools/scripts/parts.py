@@ -7,7 +7,7 @@ from dataclasses import dataclass
 from typing import Any, Dict, List, Optional
 
 from labtools.boards import snapshot
-from labtools.scripts import reads
+from labtools.scripts.reads import Board
 
 
 KINDS = {
@@ -53,25 +53,32 @@ def parts_of_plan(plan: Dict[str, Any]) -> List[Part]:
     return parts
 
 
-def plan_by_program(program: str, platform: str) -> Optional[Dict[str, Any]]:
-    """What the program makes of a platform file, by a snapshot of a board that has nothing else."""
-    with tempfile.TemporaryDirectory(prefix="lab-parts-") as folder:
-        kept, script = pathlib.Path(folder, "kept"), pathlib.Path(folder, "s.resc")
-        script.write_text(f"mach create\nmachine LoadPlatformDescription @{platform}\nSave @{kept}\n", encoding="utf-8")
-        ran = subprocess.run([program, "run", str(script)], stdout=subprocess.DEVNULL, check=False)
-        if ran.returncode != 0:
-            return None
-        board = snapshot.read(kept.read_bytes())[0]["boards"][0]
-    plan: Dict[str, Any] = board["machine"][1][""]["plan"]
-    return plan
+class Parts:
+    """The entries of boards. The program is asked once for each platform file."""
 
+    def __init__(self, program: str) -> None:
+        self.program = program
+        self.of_files: Dict[str, List[Part]] = {}
 
-def parts_of(program: str, board: reads.Board) -> List[Part]:
-    """The entries of a board; none where its platform is not taken, or comes from a pipe."""
-    if board.plan is not None:
-        return parts_of_plan(board.plan)
-    files = [file.path for file in board.files if file.kind == "platform"]
-    if not files or not all(os.path.isfile(path) for path in files):
-        return []
-    plan = plan_by_program(program, files[0])
-    return parts_of_plan(plan) if plan else []
+    def of(self, board: Optional[Board]) -> List[Part]:
+        """The entries of a board; none where its platform is not taken, or comes from a pipe."""
+        if board is None or board.plan is not None:
+            return parts_of_plan(board.plan) if board and board.plan else []
+        files = [file.path for file in board.files if file.kind == "platform"]
+        if not files or not all(map(os.path.isfile, files)):
+            return []
+        if files[0] not in self.of_files:
+            self.of_files[files[0]] = self.of_file(files[0])
+        return self.of_files[files[0]]
+
+    def of_file(self, platform: str) -> List[Part]:
+        """What the program makes of a platform file, by a snapshot of a board that has nothing else."""
+        with tempfile.TemporaryDirectory(prefix="lab-parts-") as folder:
+            kept, script = pathlib.Path(folder, "kept"), pathlib.Path(folder, "s.resc")
+            lines = f"mach create\nmachine LoadPlatformDescription @{platform}\nSave @{kept}\n"
+            script.write_text(lines, encoding="utf-8")
+            ran = subprocess.run([self.program, "run", str(script)], stdout=subprocess.DEVNULL, check=False)
+            if ran.returncode != 0:
+                return []
+            board = snapshot.read(kept.read_bytes())[0]["boards"][0]
+        return parts_of_plan(board["machine"][1][""]["plan"])

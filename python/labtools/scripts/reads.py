@@ -4,13 +4,17 @@ snapshots are opened.
     reads.files_read("demo/hub/s.resc", pathlib.Path("."))
 
 gives a `FileRead` for each file, the script itself first. `reads.follow` gives more: the line at which lab refuses the
-script, as far as that can be told without boards, the files of `Save`, and what happens to each board. Both go on after
-an image or a platform file that is not there, which lab does not: it ends with status 4 at the first record that is not
-there. They end at a script or a snapshot that is not there, since what follows depends on it.
+script, as far as that can be told without boards, the commands with their variables replaced, the files of `Save`, and
+what happens to each board.
 
-Not looked for are the causes S7, S8, S9, S14, S16, the S19 of a `Save`, and all of platform files and images: after
-such a line lab reads no more, and the list goes on. Of S20 the form of the snapshot is looked at alone.
+This reader stands beside the program's own and is not proved: `lab check` decides. It does not look for the causes S7,
+S8, S9, S14, S16, the S19 of a `Save`, and all of platform files and images; of S20 it looks at the form of the snapshot
+alone. After a line that is refused by one of these lab reads no more, and this reader goes on: the line that it tells
+is the first of the others. It also goes on after an image or a platform file that is not there, where lab ends with
+status 4. It ends at a script or a snapshot that is not there, since what follows depends on it; and at one that is a
+pipe or a device, since what that holds is lab's to read.
 """
+import contextlib
 import os
 import pathlib
 from dataclasses import dataclass, field, replace
@@ -32,6 +36,8 @@ COMMAND_LIMIT = 100_000
 DEPTH_LIMIT = 8
 PLATFORM_LIMIT = 64
 BOARD_LIMIT = 16
+SPEED_LIMIT = 1000
+COMMANDS = "S12 commands"
 
 IMAGES = {"sysbus LoadELF": "elf", "sysbus LoadHEX": "hex", "sysbus LoadBinary": "binary"}
 
@@ -80,16 +86,33 @@ class Refusal:
     chain: Chain
 
 
+@dataclass(frozen=True)
+class Command:
+    """A command with its variables replaced, and where its line stands. One that cannot be read so has no row and the
+    text of its line."""
+
+    text: str
+    file: str
+    number: int
+    row: Optional[resc.Row] = None
+    arguments: Sequence[Any] = ()
+
+    @property
+    def name(self) -> str:
+        return self.row.name if self.row else ""
+
+
 @dataclass
 class Board:
     """A board, and what the script has done with it. `cpu_type` is what its platform files say last, and `processors`
-    how many they have, which is not known of a board of a snapshot; `plan` is what the snapshot says of it. `ran_with`
-    is the last image that it had when it was run before any line had set a pc."""
+    are the names of those that they give it; of a board of a snapshot `plan` has what it is made of. `ran_with` is the
+    last image that it had when it was run before any line had set a pc."""
 
     name: str
     has_platform: bool = False
     cpu_type: str = ""
-    processors: int = 0
+    processors: List[str] = field(default_factory=list)
+    has_finisher: bool = False
     files: List[FileRead] = field(default_factory=list)
     has_pc: bool = False
     ran_with: Optional[FileRead] = None
@@ -128,12 +151,15 @@ class Scene:
 
 @dataclass
 class Reading:
-    """What a script reads. `saves` has the files of `Save`, each with whether its folder is there. `runs` counts the
-    commands that run the boards, `starts` those of them that are `start`, and `time` is how long all do in
-    microseconds, where no finisher ends one. `past_limit` is the first run that would end too late then, and after how
-    many commands. `scenes` has those of the watched line."""
+    """What a script reads. `commands` are those of macros and included files in their places, up to `quit`; where the
+    script is refused or a file is not there, the last is the one where it ends. `saves` has the files of `Save`, each
+    with whether its folder is there. `runs` counts the commands that run the boards, `starts` those of them that are
+    `start`, and `time` is how long all do in microseconds, where no finisher ends one. `past_limit` is the first run
+    that would end too late then, and after how many commands. `scenes` has those of the watched line. `unseen` is the
+    script or the snapshot that is no plain file, where the reading has ended."""
 
     files: List[FileRead] = field(default_factory=list)
+    commands: List[Command] = field(default_factory=list)
     saves: List[FileRead] = field(default_factory=list)
     boards: List[Board] = field(default_factory=list)
     runs: int = 0
@@ -142,6 +168,7 @@ class Reading:
     refusal: Optional[Refusal] = None
     past_limit: Optional[Tuple[Refusal, int]] = None
     scenes: List[Scene] = field(default_factory=list)
+    unseen: str = ""
 
 
 @dataclass(frozen=True)
@@ -159,7 +186,7 @@ class Macro:
 
 
 class Ended(Exception):
-    """No more is read: `quit`, or a file is not there on which all that follows depends."""
+    """No more is read: `quit`, or a file is not there or not seen on which all that follows depends."""
 
 
 class RefusedAt(Exception):
@@ -168,23 +195,19 @@ class RefusedAt(Exception):
         self.refusal = refusal
 
 
-def is_readable(path: pathlib.Path) -> bool:
+def is_readable(path: str) -> bool:
     """Whether a file is there and may be read. Those of os.path say no also where no path can be so."""
     return os.path.exists(path) and not os.path.isdir(path) and os.access(path, os.R_OK)
 
 
-def content_of(path: pathlib.Path) -> bytes:
-    """The bytes of a file. What comes from a pipe is not taken from those who are to read it."""
-    return path.read_bytes() if os.path.isfile(path) else b""
-
-
-def bad_line(content: bytes) -> int:
-    """The line of the first byte that is no UTF-8, or 0."""
-    try:
-        content.decode()
-    except UnicodeDecodeError as fault:
-        return content.count(b"\n", 0, fault.start) + 1
-    return 0
+def content_of(path: str) -> bytes:
+    """The bytes of a file; none where it cannot be read. What comes from a pipe is not taken from those who are to read
+    it."""
+    with contextlib.suppress(OSError):
+        if os.path.isfile(path):
+            with open(path, "rb") as file:
+                return file.read()
+    return b""
 
 
 class Walk:
@@ -206,16 +229,22 @@ class Walk:
         self.selected: Optional[Board] = None
         # what the lines of the open bodies have in front of their own place
         self.chain: Chain = ()
-        # the command that is taken
+        # the line that is taken, also as a command, and whether that is one of the reading's
         self.here: Step = Step("", "")
         self.asking: Chain = ()
+        self.pending: Command = Command("", "", 0)
+        self.is_told = True
 
     # ---- files
+
+    def file(self, path: str) -> str:
+        """The path of a file as seen from here. A slash at its end stays, since lab opens no plain file so."""
+        return os.path.join(self.folder, path)
 
     def note(self, path: str, kind: str, chain: Chain) -> FileRead:
         """A file is read by the line that ends the chain."""
         board = self.selected.name if self.selected and kind not in ("script", "snapshot") else ""
-        read = FileRead(path, kind, is_readable(self.folder / path), chain, board)
+        read = FileRead(path, kind, is_readable(self.file(path)), chain, board)
         self.reading.files.append(read)
         return read
 
@@ -225,16 +254,27 @@ class Walk:
         return RefusedAt(Refusal(self.here.place, self.here.text, cause, self.asking))
 
     def is_large(self, path: str, limit: int = FILE_LIMIT) -> bool:
-        file = self.folder / path
+        file = self.file(path)
         return os.path.isfile(file) and os.path.getsize(file) > limit
 
-    def text(self, path: str, chain: Chain) -> str:
-        """The text of a script or a platform file that is there."""
-        content = content_of(self.folder / path)
-        line = bad_line(content)
-        if line:
-            raise self.refuse("S18 not utf-8", f"{path}:{line}", "", chain)
-        return content.decode()
+    def content(self, read: FileRead, limit: int = FILE_LIMIT) -> bytes:
+        """The bytes of a script or a snapshot, on which all depends that follows."""
+        if not read.is_there:
+            raise Ended
+        if not os.path.isfile(self.file(read.path)):
+            self.reading.unseen = read.path
+            raise Ended
+        if self.is_large(read.path, limit):
+            raise self.refuse("S19 size", "" if read.chain else f"{read.path}:0")
+        return content_of(self.file(read.path))
+
+    def text(self, path: str, content: bytes, chain: Chain) -> str:
+        """The text of a script or a platform file."""
+        try:
+            return content.decode()
+        except UnicodeDecodeError as fault:
+            line = content.count(b"\n", 0, fault.start) + 1
+            raise self.refuse("S18 not utf-8", f"{path}:{line}", "", chain) from fault
 
     # ---- bodies
 
@@ -255,22 +295,20 @@ class Walk:
 
     def script(self, path: str) -> None:
         """Takes the script itself."""
-        read = self.note(path, "script", ())
-        if not read.is_there:
-            raise Ended
-        if self.is_large(path):
-            raise self.refuse("S19 size", f"{path}:0")
-        self.body(path, resc.numbered(self.text(path, ())), ())
+        content = self.content(self.note(path, "script", ()))
+        self.body(path, resc.numbered(self.text(path, content, ())), ())
 
     def take(self, file: str, item: resc.Item) -> None:
         self.here = Step(f"{file}:{item.line.number}", item.line.text.strip(" \t"))
         self.asking = self.chain + (self.here,)
+        self.pending, self.is_told = Command(item.line.text, file, item.line.number), False
         if self.here.place == self.watched:
             self.watch(self.scene(item.line.text))
         if isinstance(item, resc.Unclosed):
+            self.pending = replace(self.pending, text=f'{item.line.text}\n"""')
             raise self.refuse("S17 unclosed")
         if self.taken == COMMAND_LIMIT:
-            raise self.refuse("S12 commands")
+            raise self.refuse(COMMANDS)
         self.taken += 1
         if isinstance(item, resc.Define):
             self.macros[item.name] = Macro(file, item.body)
@@ -278,6 +316,7 @@ class Walk:
             self.assign(item)
         else:
             self.command(item)
+        self.is_told = True
 
     def watch(self, scene: Scene) -> None:
         scenes = self.reading.scenes
@@ -319,12 +358,21 @@ class Walk:
         if not item.is_malformed:
             words = self.replaced(words)
         try:
-            row, values = resc.command_of(words)
+            row, arguments = resc.command_of(words)
         except Refused as fault:
             raise self.refuse(str(fault)) from fault
+        command = replace(self.pending, text=" ".join(words), row=row, arguments=arguments)
+        if row.name not in ("include", "runMacro", "quit"):
+            self.reading.commands.append(command)
+            self.is_told = True
         does = DOES.get(row.name)
         if does:
-            does(self, row.name, values)
+            does(self, command)
+
+    def end(self) -> None:
+        """Adds the line where the script has ended to the commands, if it is none of them yet."""
+        if not self.is_told:
+            self.reading.commands.append(self.pending)
 
     def replaced(self, words: Sequence[str]) -> List[str]:
         """The words of a command with their variables replaced, but for the name of a macro."""
@@ -361,16 +409,16 @@ class Walk:
             raise self.refuse("S6 taken")
         self.names[name] = self.here.place
 
-    def create(self, _: str, values: List[Any]) -> None:
-        name = values[0] if values else f"machine-{len(self.reading.boards)}"
+    def create(self, command: Command) -> None:
+        name = command.arguments[0] if command.arguments else f"machine-{len(self.reading.boards)}"
         self.take_name(name)
         if len(self.reading.boards) == BOARD_LIMIT:
             raise self.refuse("S13 boards")
         self.selected = Board(name)
         self.reading.boards.append(self.selected)
 
-    def select(self, _: str, values: List[Any]) -> None:
-        name = values[0]
+    def select(self, command: Command) -> None:
+        name = command.arguments[0]
         boards = self.reading.boards
         named = [board for board in boards if board.name == name]
         number = resc.number_of(name)
@@ -380,57 +428,61 @@ class Walk:
             raise self.refuse("S5 board")
         self.selected = named[0]
 
-    def hub(self, command: str, values: List[Any]) -> None:
-        self.take_name(values[0])
-        self.hubs[values[0]] = "uart" if command == "emulation CreateUARTHub" else "can"
+    def hub(self, command: Command) -> None:
+        self.take_name(command.arguments[0])
+        self.hubs[command.arguments[0]] = "uart" if command.name == "emulation CreateUARTHub" else "can"
 
-    def connect(self, _: str, values: List[Any]) -> None:
+    def connect(self, command: Command) -> None:
         board = self.equipped()
-        self.joined.setdefault((board.name, resc.entry_of(values[0])), (values[1], self.here.place))
+        device, hub = command.arguments
+        self.joined.setdefault((board.name, resc.entry_of(device)), (hub, self.here.place))
 
-    def platform(self, _: str, values: List[Any]) -> None:
+    def platform(self, command: Command) -> None:
         board = self.board()
         if board.has_platform:
             raise self.refuse("S15 platform")
         board.has_platform = True
-        read = self.note(values[0], "platform", self.asking)
+        read = self.note(command.arguments[0], "platform", self.asking)
         board.files.append(read)
         if self.is_large(read.path):
             raise self.refuse("S19 size")
         if read.is_there:
             PlatformWalk(self, board).file(read, DEPTH_LIMIT - self.depth)
 
-    def reset(self, _: str, values: List[Any]) -> None:
+    def reset(self, _: Command) -> None:
         self.equipped().has_pc = False
 
-    def on_board(self, _: str, values: List[Any]) -> None:
+    def on_board(self, _: Command) -> None:
         self.equipped()
 
-    def pc(self, _: str, values: List[Any]) -> None:
+    def pc(self, command: Command) -> None:
         board = self.equipped()
-        board.has_pc = board.has_pc or bool(values)
+        board.has_pc = board.has_pc or bool(command.arguments)
 
-    def speed(self, _: str, values: List[Any]) -> None:
-        board = self.equipped()
-        if values and values[0] * board.processors > 1000:
+    def speed(self, command: Command) -> None:
+        """The processors of a board are limited together, whatever the name is."""
+        count = len(self.equipped().processors)
+        if any(speed * count > SPEED_LIMIT for speed in command.arguments):
             raise self.refuse(resc.ARGUMENTS)
 
-    def image(self, command: str, values: List[Any]) -> None:
+    def image(self, command: Command) -> None:
         board = self.equipped()
-        read = self.note(values[0], IMAGES[command], self.asking)
+        read = self.note(command.arguments[0], IMAGES[command.name], self.asking)
         board.files.append(read)
         if self.is_large(read.path):
             raise self.refuse("S19 size")
-        begins_at_0 = read.kind == "binary" and values[1] == 0
+        begins_at_0 = read.kind == "binary" and command.arguments[1] == 0
         board.has_pc = board.has_pc or read.kind == "elf" or begins_at_0
 
     # ---- the whole laboratory
 
-    def run(self, command: str, values: List[Any]) -> None:
+    def run(self, command: Command) -> None:
         if not all(board.has_platform for board in self.reading.boards):
             raise self.refuse("S15 platform")
-        self.reading.starts += command == "start"
-        until = self.reading.time + values[0] if values else max(self.reading.time, self.until)
+        self.reading.starts += command.name == "start"
+        until = max(self.reading.time, self.until)
+        if command.arguments:
+            until = self.reading.time + command.arguments[0]
         if until > TIME_LIMIT and self.reading.past_limit is None:
             self.reading.past_limit = self.refuse("S14 lab time").refusal, self.taken - 1
         if until > self.reading.time:
@@ -439,20 +491,18 @@ class Walk:
             for board in self.reading.boards:
                 board.run()
 
-    def save(self, _: str, values: List[Any]) -> None:
-        is_there = os.path.isdir((self.folder / values[0]).parent)
-        self.reading.saves.append(FileRead(values[0], "snapshot", is_there, self.asking))
+    def save(self, command: Command) -> None:
+        path = command.arguments[0]
+        is_there = os.path.isdir(os.path.dirname(self.file(path)))
+        self.reading.saves.append(FileRead(path, "snapshot", is_there, self.asking))
 
-    def load(self, _: str, values: List[Any]) -> None:
+    def load(self, command: Command) -> None:
         if self.reading.boards or self.hubs or self.reading.time:
             raise self.refuse("S21 occupied")
-        read = self.note(values[0], "snapshot", self.asking)
-        if not read.is_there:
-            raise Ended
-        if self.is_large(read.path, SNAPSHOT_LIMIT):
-            raise self.refuse("S19 size")
+        read = self.note(command.arguments[0], "snapshot", self.asking)
+        content = self.content(read, SNAPSHOT_LIMIT)
         try:
-            held = snapshot.read(content_of(self.folder / read.path))[0]
+            held = snapshot.read(content)[0]
         except snapshot.NoSnapshot as fault:
             raise self.refuse("S20 snapshot") from fault
         self.resume(held)
@@ -467,26 +517,29 @@ class Walk:
 
     def resumed(self, held: Dict[str, Any]) -> Board:
         machine = held["machine"][1].get("")
-        return Board(held["name"], True, has_pc=True, plan=machine["plan"] if machine else None)
+        board = Board(held["name"], machine is not None, has_pc=True)
+        if machine:
+            board.plan = machine["plan"]
+            board.processors = list(machine["plan"]["processors"])
+            board.has_finisher = any(kind == "finisher" for kind, _ in machine["plan"]["kinds"])
+        return board
 
-    def include(self, _: str, values: List[Any]) -> None:
+    def include(self, command: Command) -> None:
         if self.depth == DEPTH_LIMIT:
             raise self.refuse("S11 depth")
         chain = self.asking
-        read = self.note(values[0], "script", chain)
-        if not read.is_there:
-            raise Ended
-        if self.is_large(read.path):
-            raise self.refuse("S19 size")
-        self.inner(read.path, resc.numbered(self.text(read.path, chain)), chain)
+        read = self.note(command.arguments[0], "script", chain)
+        text = self.text(read.path, self.content(read), chain)
+        self.inner(read.path, resc.numbered(text), chain)
 
-    def run_macro(self, _: str, values: List[Any]) -> None:
-        macro = self.macros.get(values[0])
+    def run_macro(self, command: Command) -> None:
+        macro = self.macros.get(command.arguments[0])
         if macro is None:
             raise self.refuse("S3 variable")
         self.inner(macro.file, macro.body, self.asking)
 
-    def quit(self, _: str, values: List[Any]) -> None:
+    def quit(self, _: Command) -> None:
+        self.is_told = True
         raise Ended
 
 
@@ -500,14 +553,21 @@ class PlatformWalk:
 
     def file(self, read: FileRead, room: int) -> None:
         """A file that is there, of which so many may still be open within each other."""
-        text = self.walk.text(read.path, read.chain)
+        text = self.walk.text(read.path, content_of(self.walk.file(read.path)), read.chain)
         lines = resc.lines_of(text)
-        for number, path in repl.used_files(text):
-            step = Step(f"{read.path}:{number}", lines[number - 1].strip(" \t"))
-            self.used(step, path, read.chain + (step,), room)
-        self.board.processors += repl.processors(text)
-        for cpu_type in repl.cpu_types(text):
-            self.board.cpu_type = cpu_type
+        for item in repl.items_of(text):
+            if isinstance(item, repl.Using):
+                step = Step(f"{read.path}:{item.number}", lines[item.number - 1].strip(" \t"))
+                self.used(step, item.path, read.chain + (step,), room)
+            else:
+                self.entry(item)
+
+    def entry(self, entry: repl.Entry) -> None:
+        if entry.type_name == repl.PROCESSOR:
+            self.board.processors.append(entry.name)
+        if entry.type_name == repl.FINISHER:
+            self.board.has_finisher = True
+        self.board.cpu_type = entry.attributes.get("cpuType", self.board.cpu_type)
 
     def used(self, step: Step, path: str, chain: Chain, room: int) -> None:
         if room == 0 or self.read == PLATFORM_LIMIT:
@@ -521,7 +581,7 @@ class PlatformWalk:
             self.file(read, room - 1)
 
 
-DOES: Dict[str, Callable[[Walk, str, List[Any]], None]] = {
+DOES: Dict[str, Callable[[Walk, Command], None]] = {
     "* PC": Walk.pc,
     "* IsHalted": Walk.on_board,
     "* PerformanceInMips": Walk.speed,
@@ -560,6 +620,7 @@ def follow(
         pass
     except RefusedAt as refused:
         walk.reading.refusal = refused.refusal
+    walk.end()
     return walk.reading
 
 

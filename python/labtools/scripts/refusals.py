@@ -5,26 +5,21 @@ import pathlib
 import re
 import subprocess
 from dataclasses import dataclass
-from typing import List, Optional
+from typing import List, NamedTuple, Optional
 
 from labtools.scripts import reads
 from labtools.scripts import resc
-from labtools.scripts.parts import parts_of
 
 
 HERE = pathlib.Path(".")
-REFUSED = re.compile(r"error: (.*):(\d+): (\S+ .*)")
+REFUSED = re.compile(r"error: (.*:\d+): (\S+ .*)")
 
 
 @dataclass(frozen=True)
-class Refused:
-    """A line by its place FILE:LINE, its text and its cause as lab prints it, the lines that lead to it, and the scenes
-    at one of which it was refused. The place is empty where it is not known."""
+class Refused(reads.Refusal):
+    """The lines of its chain lead to a refused line, and at one of the scenes it was refused. The place is empty where
+    it is not known."""
 
-    place: str
-    text: str
-    cause: str
-    chain: reads.Chain
     scenes: List[reads.Scene]
 
     @property
@@ -36,17 +31,15 @@ class Refused:
         return resc.sides_of(self.text)
 
 
-@dataclass(frozen=True)
-class Told:
+class Told(NamedTuple):
     """What a check ends with: a place, and the cause."""
 
-    file: str
-    number: int
+    place: str
     cause: str
 
     @property
-    def place(self) -> str:
-        return f"{self.file}:{self.number}"
+    def file(self) -> str:
+        return self.place.rpartition(":")[0]
 
 
 def told_by_check(program: str, script: str) -> Optional[Told]:
@@ -54,13 +47,14 @@ def told_by_check(program: str, script: str) -> Optional[Told]:
     ran = subprocess.run([program, "check", "--", script], stdout=subprocess.PIPE, check=False)
     last = ran.stdout.decode(errors="replace").rstrip("\n").rpartition("\n")[2]
     match = REFUSED.fullmatch(last)
-    return Told(match[1], int(match[2]), match[3]) if match and ran.returncode == 3 else None
+    return Told(match[1], match[2]) if match and ran.returncode == 3 else None
 
 
 def text_at(told: Told) -> str:
     """The text of a line; none of line 0, or where the file came from a pipe."""
-    lines = resc.lines_of(reads.content_of(HERE / told.file).decode(errors="replace"))
-    return lines[told.number - 1].strip() if 0 < told.number <= len(lines) else ""
+    lines = resc.lines_of(reads.content_of(told.file).decode(errors="replace"))
+    number = int(told.place.rpartition(":")[2])
+    return lines[number - 1].strip() if 0 < number <= len(lines) else ""
 
 
 def steps_to(told: Told, reading: reads.Reading) -> reads.Chain:
@@ -99,13 +93,12 @@ def of_line(refusal: reads.Refusal) -> Refused:
     return Refused(refusal.place, refusal.text, refusal.cause, refusal.chain[:-1], [])
 
 
-def by_run_alone(program: str, reading: reads.Reading, is_check_refused: bool) -> Optional[Refused]:
+def by_run_alone(reading: reads.Reading, is_check_refused: bool) -> Optional[Refused]:
     """What a run is refused for and a check is not, if that can be told. A finisher may have ended a run early, so that
     a later one than the first is too long."""
     limit, refusal = reading.past_limit, reading.refusal
     if limit:
-        boards = [parts_of(program, board) for board in reading.boards]
-        if not any(part.kind == "finisher" for parts in boards for part in parts):
+        if not any(board.has_finisher for board in reading.boards):
             return of_line(limit[0])
         return None if is_check_refused else Refused("", "", limit[0].cause, (), [])
     if refusal and refusal.cause == "S21 occupied":
@@ -126,4 +119,4 @@ def found(program: str, script: str, until: Optional[int]) -> Optional[Refused]:
     reading = reads.follow(script, HERE, until or 0, told.place if told else "")
     if told and (until is None or is_taken_first(told, reading)):
         return of_check(told, reading)
-    return by_run_alone(program, reading, told is not None)
+    return by_run_alone(reading, told is not None)

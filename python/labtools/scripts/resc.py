@@ -1,6 +1,7 @@
 """The lines of a script, by the rules of docs/SCRIPTS.md: words, variables, macros, and the commands with their words.
 
-Nothing here reads a file or knows of boards. `Refused` is a line that lab refuses whatever stands before it.
+Nothing here reads a file or knows of boards. `Refused` is a line that lab refuses whatever stands before it. This
+reader stands beside the program's own and is not proved: `lab check` decides.
 """
 import re
 from dataclasses import dataclass
