@@ -24,7 +24,7 @@ import sys
 from typing import Any, Dict, List
 
 from labtools.common.escapes import shown
-from labtools.common.program import parser_of
+from labtools.common.program import name_of_script, parser_of
 from labtools.scripts import reads
 
 
