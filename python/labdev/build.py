@@ -22,8 +22,8 @@ import tempfile
 import time
 from typing import IO, Dict, Iterable, Iterator, List, Optional, Set
 
-from labtools.common.program import TOP, answer_help, end_unless, number_of
-
+from labdev import trials
+from labtools.common.program import TOP, end_unless, number_of
 
 FOLDER = f"{TOP}/crates/lab_cli"
 PROGRAM = f"{FOLDER}/out/lab_cli"
@@ -290,12 +290,9 @@ def build(lanes: int, log: IO[str]) -> None:
 
 
 def main(words: List[str]) -> int:
-    answer_help(__doc__)
     end_unless(len(words) < 2, "[LANES]")
     lanes = number_of(words[0], "[LANES]", MOST_LANES) if words else lanes_for_this_machine()
-    # So that what runs is ended when this run is told to end.
-    for number in (signal.SIGTERM, signal.SIGHUP):
-        signal.signal(number, lambda told, _: sys.exit(128 + told))
+    trials.unwind_at_ends()
     status = 0
     with tempfile.NamedTemporaryFile("w", prefix="lab-build-", suffix=".log", delete=False) as log:
         try:
@@ -309,7 +306,3 @@ def main(words: List[str]) -> int:
             status = 130
     os.remove(log.name)
     return status
-
-
-if __name__ == "__main__":
-    sys.exit(main(sys.argv[1:]))

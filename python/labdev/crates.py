@@ -7,12 +7,10 @@ Crates of tests and programs beside `lab` are left out, and so are libraries of 
 that cannot be printed, and with 2 where its words are wrong.
 """
 import functools
-import sys
 import textwrap
 from typing import Dict, List
 
-from labtools.common.program import TOP, answer_help, end_unless, end_with
-
+from labtools.common.program import TOP, end_unless
 
 PROGRAM = "lab_cli"
 COLUMNS = 110
@@ -53,12 +51,7 @@ def layers(uses: Dict[str, List[str]]) -> List[str]:
     return lines
 
 
-def main() -> None:
-    answer_help(__doc__)
-    end_unless(sys.argv[1:] in ([], ["--chain"]), "[--chain]")
+def main(words: List[str]) -> None:
+    end_unless(words in ([], ["--chain"]), "[--chain]")
     uses = uses_of((TOP / "crates.txt").read_text(encoding="utf-8"))
-    print("\n".join(layers(uses) if not sys.argv[1:] else [" > ".join(chains_of(uses)[PROGRAM])]))
-
-
-if __name__ == "__main__":
-    end_with(main)
+    print("\n".join([" > ".join(chains_of(uses)[PROGRAM])] if words else layers(uses)))

@@ -29,7 +29,7 @@ import shutil
 import subprocess
 import tempfile
 import threading
-from typing import Any, Counter, Dict, Iterator, List, Optional, Tuple, Union
+from typing import Any, Counter, Dict, Iterator, List, Tuple, Union
 
 from labdev import cases, trials
 from labdev.cases import Files
@@ -259,6 +259,7 @@ class Trial:
             self.ends[ran.refusal[3].decode() if ran.refusal else ran.status] += 1
 
     def try_all(self, damages: List[Tuple[Laboratory, str, int, str]]) -> None:
+        trials.unwind_at_ends()
         try:
             with concurrent.futures.ThreadPoolExecutor(trials.lanes()) as workers:
                 for at in range(0, len(damages), BATCH):

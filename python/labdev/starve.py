@@ -167,6 +167,7 @@ def main(words: List[str]) -> int:
     end_unless(len(words) < 2, "[FIRST]")
     first = number_of(words[0], "[FIRST]") if words else 1000
     program = path_of_program()
+    trials.unwind_at_ends()
     is_well = True
     with tempfile.TemporaryDirectory(prefix="lab-starve-") as room:
         library = built(room)

@@ -3,7 +3,9 @@ import dataclasses
 import glob
 import os
 import shutil
+import signal
 import subprocess
+import sys
 from typing import Any, Iterable, List, Optional, Sequence
 
 from labdev.cases import Files
@@ -63,6 +65,14 @@ def scripts_of_demos() -> List[str]:
     return sorted(os.path.relpath(path, TOP) for path in glob.glob(f"{TOP}/demo/*/s.resc"))
 
 
+def unwind_at_ends() -> None:
+    """From now on a signal that ends this tool, or a reader that goes, is an exception, so that its rooms and what it
+    has started go too."""
+    signal.signal(signal.SIGPIPE, signal.SIG_IGN)
+    for number in (signal.SIGTERM, signal.SIGHUP):
+        signal.signal(number, lambda told, _: sys.exit(128 + told))
+
+
 def lanes() -> int:
     """Returns how many runs are made at a time."""
     return len(os.sched_getaffinity(0))
@@ -71,6 +81,7 @@ def lanes() -> int:
 def tell_wrong(texts: Iterable[str]) -> int:
     """Prints what is wrong, as it is found, and returns the status of the tool."""
     status = 0
+    unwind_at_ends()
     for text in texts:
         print(f"{name_of_script()}: {text}", flush=True)
         status = 1
