@@ -8,7 +8,7 @@ that cannot be printed, and with 2 where its words are wrong.
 """
 import functools
 import textwrap
-from typing import Dict, List
+from typing import Dict, List, Set
 
 from labtools.common.program import TOP, end_unless
 
@@ -24,7 +24,7 @@ def uses_of(text: str) -> Dict[str, List[str]]:
     return {row[0].split()[0]: [it for it in row[2].split() if it in names] for row in rows}
 
 
-def below(uses: Dict[str, List[str]], crate: str) -> "set[str]":
+def below(uses: Dict[str, List[str]], crate: str) -> Set[str]:
     """Returns a crate and all that it stands on."""
     return {crate}.union(*(below(uses, it) for it in uses[crate]))
 
@@ -34,7 +34,8 @@ def chains_of(uses: Dict[str, List[str]]) -> Dict[str, List[str]]:
 
     @functools.lru_cache(maxsize=None)
     def chain(crate: str) -> List[str]:
-        longest = max((chain(it) for it in sorted(uses[crate])), key=len, default=[])
+        none: List[str] = []
+        longest = max((chain(it) for it in sorted(uses[crate])), key=len, default=none)
         return [crate, *longest]
 
     return {crate: chain(crate) for crate in uses}

@@ -1,20 +1,21 @@
-"""Makes the packages of lab: an archive that runs where it is unpacked, and one for Debian.
+"""Makes the packages of lab: an archive that runs where it is unpacked, one for Debian, and a wheel for pip.
 
-    tools/package [FOLDER]    makes lab-VERSION-x86_64-linux.tar.gz and lab_VERSION_amd64.deb there, or in out/package
+    tools/package [FOLDER]    makes them there, or in out/package
 
-Both have the program, the scripts of tools/ that its users need, the manual page lab(1), made from docs/SCRIPTS.md,
-completion for bash, the changes from version to version, the documents, the demos, and a file SUMS with the version,
-the sum of the sources, the sum of the program and the logic by which they were proved. The program is bin/lab, or the
-one that was built here, whichever was built from the present sources; nothing is built. The same files give the same
-bytes. Without dpkg-deb the archive alone is made, which is told. It ends with 0, with 1 where there is no such program,
-and with 2 where it is called otherwise.
+They are lab-VERSION-x86_64-linux.tar.gz, lab_VERSION_amd64.deb and
+lab_emulator-VERSION-py3-none-manylinux_2_34_x86_64.whl. All have the program, the tools that its users need, and a file SUMS with the version, the sum of the sources, the sum
+of the program and the logic by which they were proved; the first two also the manual page lab(1), made from
+docs/SCRIPTS.md, completion for bash, the changes from version to version, the documents and the demos. The program is
+bin/lab, or the one that was built here, whichever was built from the present sources; nothing is built. The same files
+give the same bytes. Without dpkg-deb the Debian package is not made, which is told. It ends with 0, with 1 where there
+is no such program, and with 2 where it is called otherwise.
 
 The archive is a folder as the repository is: ./lab, tools/, docs/ and demo/ stand in it. The Debian package puts that
 folder to /usr/lib/lab, its commands to /usr/bin as lab, lab-expect and so on, and documents and demos to
 /usr/share/doc/lab. There each command has a manual page, made from what it answers to --help, and the documents call it
-as it is called there. What lintian would say of it stands in packaging/lintian-overrides, with the reasons.
+as it is called there. What lintian would say of it stands in packaging/lintian-overrides, with the reasons. The wheel
+is the package `labtools`, which has the program and the documents in its folder `share`; pip makes the same commands.
 """
-import argparse
 import dataclasses
 import functools
 import gzip
@@ -25,74 +26,25 @@ import pathlib
 import re
 import shutil
 import subprocess
-import sys
 import tarfile
 import tempfile
-from typing import Dict, List, Optional
+from typing import Dict, List
 
+from labdev import wheel
 from labdev.completions import completion as completion_of_scripts
+from labdev.packed import DATE, Entry, Tree, file_of, files_below, link, put
 from labdev.released import Sums, fault_of, sum_of, sums_kept_with
 from labtools.common.manual import manual_page, page_of_script
-from labtools.common.program import TOP, answer_help, named_as_installed
+from labtools.common.program import TOP, end_wrong, named_as_installed, names_of_tools, parser_of, tell
 
 
-# The scripts that serve those who change lab. All others are packed.
-FOR_DEVELOPERS = {
-    "build",
-    "check",
-    "costs",
-    "crates",
-    "cuts",
-    "edges",
-    "mangle",
-    "package",
-    "recipes",
-    "release",
-    "sources",
-    "speed",
-    "starve",
-    "stress",
-    "workers",
-}
 PROGRAMS = TOP / "bin/lab", TOP / "crates/lab_cli/out/lab_cli"
 # What the kit writes into each program that it has proved, and how much of it `rt version` prints.
 LOGIC = re.compile(rb"rattle logic=([0-9a-f]{16})")
-# The date of every packed file, so that the same files give the same bytes: 2026-01-01.
-DATE = 1767225600
-
-
-# What runs of demos leave behind.
-MADE = ".snap", ".sums"
 
 
 class Refused(Exception):
     """Why nothing is packed."""
-
-
-@dataclasses.dataclass(frozen=True)
-class Entry:
-    """A file of the package, by what it holds, or a link, by where it leads to."""
-
-    held: bytes
-    mode: int = 0o644
-    leads_to: Optional[str] = None
-
-
-def link(leads_to: str) -> Entry:
-    return Entry(b"", 0o777, leads_to)
-
-
-Tree = Dict[str, Entry]
-
-
-def files_below(folder: str) -> Tree:
-    """Returns the files of a folder of the repository by their paths."""
-    tree = {}
-    for path in sorted((TOP / folder).rglob("*")):
-        if path.is_file() and "__pycache__" not in path.parts and path.suffix not in MADE:
-            mode = 0o755 if os.access(path, os.X_OK) else 0o644
-            tree[str(path.relative_to(TOP))] = Entry(path.read_bytes(), mode)
-    return tree
 
 
 def released_program() -> pathlib.Path:
@@ -123,55 +75,45 @@ def sums(program: bytes, sources: str) -> bytes:
     return "".join(f"{name} {value}\n" for name, value in lines.items()).encode()
 
 
-def entry_of(path: pathlib.Path) -> Entry:
-    """Returns a script as it stands: a program, or the link that it is."""
-    return link(os.readlink(path)) if path.is_symlink() else Entry(path.read_bytes(), 0o755)
-
-
-def scripts() -> List[pathlib.Path]:
-    """Returns the scripts that are packed."""
-    return [it for it in sorted((TOP / "tools").iterdir()) if it.is_file() and it.name not in FOR_DEVELOPERS]
-
-
-def tools_of_users() -> Tree:
-    """Returns the scripts that are packed, with what they share."""
+def program_files(program: bytes, sources: str) -> Tree:
+    """Returns ./lab and the program, and what is known of it."""
     return {
-        **files_below("python/labtools"),
-        "python/launch.py": Entry((TOP / "python/launch.py").read_bytes(), 0o755),
-        **{f"tools/{it.name}": entry_of(it) for it in scripts()},
-    }
-
-
-def commands(program: bytes, sources: str) -> Tree:
-    """Returns what runs: ./lab, the program and the scripts."""
-    return {
-        "lab": Entry((TOP / "lab").read_bytes(), 0o755),
+        "lab": file_of(TOP / "lab"),
         "bin/lab": Entry(program, 0o755),
         "bin/lab.sources": Entry(Sums(sources, sum_of(program)).text.encode()),
         "VERSION": Entry(f"{version()}\n".encode()),
         "SUMS": Entry(sums(program, sources)),
-        **tools_of_users(),
+    }
+
+
+def commands(program: bytes, sources: str) -> Tree:
+    """Returns what runs: ./lab, the program and the tools."""
+    return {
+        **program_files(program, sources),
+        **files_below("python/labtools"),
+        "python/launch.py": file_of(TOP / "python/launch.py"),
+        **{f"tools/{name}": link("../python/launch.py") for name in names_of_tools()},
     }
 
 
 def documents() -> Tree:
     """Returns what is read, and the demos."""
-    return {"README.md": Entry((TOP / "README.md").read_bytes()), **files_below("docs"), **files_below("demo")}
+    return {"README.md": file_of(TOP / "README.md"), **files_below("docs"), **files_below("demo")}
 
 
 @functools.lru_cache(maxsize=None)
 def answers() -> Dict[str, str]:
     """Returns what each script of the package answers to --help, by its name."""
     found = {}
-    for script in scripts():
-        said = subprocess.run([str(script), "--help"], check=True, stdout=subprocess.PIPE, text=True)
-        found[script.name] = said.stdout
+    for name in names_of_tools():
+        words = [str(TOP / "tools" / name), "--help"]
+        found[name] = subprocess.run(words, check=True, stdout=subprocess.PIPE, encoding="utf-8").stdout
     return found
 
 
 def manual(is_installed: bool) -> bytes:
     """Returns the page of lab, which names the scripts beside it as they are called."""
-    names = ", ".join(f"lab-{it.name}(1)" if is_installed else f"tools/{it.name}" for it in scripts())
+    names = ", ".join(f"lab-{name}(1)" if is_installed else f"tools/{name}" for name in names_of_tools())
     return manual_page((TOP / "docs/SCRIPTS.md").read_text(encoding="utf-8"), version(), names).encode()
 
 
@@ -201,7 +143,7 @@ def installed(name: str, entry: Entry) -> Entry:
     """Returns a document or a file of a demo as the Debian package has it: a text names the commands as they are called
     there, and an image of firmware is no program of the system."""
     if name.endswith(".md"):
-        text = named_as_installed(entry.held.decode("utf-8"), [it.name for it in scripts()])
+        text = named_as_installed(entry.held.decode("utf-8"), names_of_tools())
         return dataclasses.replace(entry, held=text.encode())
     return dataclasses.replace(entry, mode=0o644) if name.endswith(".elf") else entry
 
@@ -209,7 +151,7 @@ def installed(name: str, entry: Entry) -> Entry:
 def debian_pages() -> Tree:
     """Returns what Debian wants of a package and of its commands: pages, completion, the changes, and which words of
     lintian are to be passed over."""
-    said = {name: named_as_installed(text, [it.name for it in scripts()]) for name, text in answers().items()}
+    said = {name: named_as_installed(text, names_of_tools()) for name, text in answers().items()}
     pages = {"lab": manual(is_installed=True), **{f"lab-{name}": manual_of_script(name, said[name]) for name in said}}
     completions = "usr/share/bash-completion/completions"
     return {
@@ -233,7 +175,7 @@ def debian_tree(program: bytes, sources: str) -> Tree:
             tree[f"usr/share/doc/lab/{name}"] = installed(name, entry)
     tree.update(debian_pages())
     tree["usr/bin/lab"] = link("../lib/lab/lab")
-    tree.update({f"usr/bin/lab-{it.name}": link(f"../lib/lab/tools/{it.name}") for it in scripts()})
+    tree.update({f"usr/bin/lab-{name}": link(f"../lib/lab/tools/{name}") for name in names_of_tools()})
     # So that the commands of demos, and the paths of documents, are true in both folders.
     for name in "lab", "tools", "python":
         tree[f"usr/share/doc/lab/{name}"] = link(f"../../../lib/lab/{name}")
@@ -258,7 +200,7 @@ def md5sums(tree: Tree) -> bytes:
 def make_archive(path: pathlib.Path, folder: str, tree: Tree) -> None:
     """Makes an archive of which all files stand in a folder of this name."""
     with open(path, "wb") as file, gzip.GzipFile("", "wb", fileobj=file, mtime=DATE) as packed:
-        with tarfile.open(fileobj=packed, mode="w", format=tarfile.USTAR_FORMAT) as archive:
+        with tarfile.TarFile(fileobj=packed, mode="w", format=tarfile.USTAR_FORMAT) as archive:
             for name, entry in sorted(tree.items()):
                 member = tarfile.TarInfo(f"{folder}/{name}")
                 member.mode, member.mtime, member.size = entry.mode, DATE, len(entry.held)
@@ -266,18 +208,6 @@ def make_archive(path: pathlib.Path, folder: str, tree: Tree) -> None:
                 if entry.leads_to is not None:
                     member.type, member.linkname = tarfile.SYMTYPE, entry.leads_to
                 archive.addfile(member, io.BytesIO(entry.held))
-
-
-def put(root: pathlib.Path, tree: Tree) -> None:
-    """Writes the files of a package below a folder."""
-    for name, entry in sorted(tree.items()):
-        path = root / name
-        path.parent.mkdir(parents=True, exist_ok=True)
-        if entry.leads_to is not None:
-            path.symlink_to(entry.leads_to)
-        else:
-            path.write_bytes(entry.held)
-            path.chmod(entry.mode)
 
 
 def make_debian(path: pathlib.Path, tree: Tree) -> None:
@@ -293,37 +223,36 @@ def make_debian(path: pathlib.Path, tree: Tree) -> None:
         subprocess.run(words, check=True, env=environment, stdout=subprocess.DEVNULL)
 
 
-def pack(folder: pathlib.Path, program: bytes, sources: str) -> List[pathlib.Path]:
-    """Makes the packages of this program in a folder, and returns their paths."""
+def wheel_tree(program: bytes, sources: str) -> Tree:
+    """Returns the files of the wheel. Its tools read the documents."""
+    texts = {name: installed(name, entry) for name, entry in files_below("docs").items()}
+    return wheel.wheel_tree(version(), {**program_files(program, sources), **texts})
+
+
+def pack(folder: pathlib.Path, program: bytes, sources: str) -> Dict[str, pathlib.Path]:
+    """Makes the packages of this program in a folder, and returns their paths by their kinds."""
     folder.mkdir(parents=True, exist_ok=True)
     name = f"lab-{version()}-x86_64-linux"
-    made = [folder / f"{name}.tar.gz"]
-    make_archive(made[0], name, archive_tree(program, sources))
+    made = {"archive": folder / f"{name}.tar.gz", "wheel": folder / wheel.name_of(version())}
+    make_archive(made["archive"], name, archive_tree(program, sources))
+    wheel.make(made["wheel"], wheel_tree(program, sources))
     if shutil.which("dpkg-deb"):
-        made.append(folder / f"lab_{version()}_amd64.deb")
-        make_debian(made[1], debian_tree(program, sources))
+        made["Debian"] = folder / f"lab_{version()}_amd64.deb"
+        make_debian(made["Debian"], debian_tree(program, sources))
     return made
 
 
-def main() -> int:
-    answer_help(__doc__)
-    form = argparse.RawDescriptionHelpFormatter
-    parser = argparse.ArgumentParser(description=__doc__, formatter_class=form, usage=argparse.SUPPRESS, add_help=False)
-    parser.add_argument("--help", action="help", help=argparse.SUPPRESS)
-    parser.add_argument("folder", nargs="?", type=pathlib.Path, default=TOP / "out/package", help=argparse.SUPPRESS)
-    words = parser.parse_args()
+def main(words: List[str]) -> int:
+    parser = parser_of(__doc__)
+    parser.add_argument("folder", nargs="?", type=pathlib.Path, default=TOP / "out/package")
+    given = parser.parse_args(words)
     try:
         program = released_program()
-        made = pack(words.folder, program.read_bytes(), sums_kept_with(program).sources)
+        made = pack(given.folder, program.read_bytes(), sums_kept_with(program).sources)
     except (Refused, OSError, subprocess.CalledProcessError) as fault:
-        print(f"tools/package: {fault}", file=sys.stderr)
-        return 1
-    for path in made:
-        print(f"{hashlib.sha256(path.read_bytes()).hexdigest()}  {path}")
-    if len(made) == 1:
-        print("tools/package: the Debian package is not made, without dpkg-deb", file=sys.stderr)
+        end_wrong(fault, 1)
+    for path in made.values():
+        print(f"{sum_of(path.read_bytes())}  {path}")
+    if "Debian" not in made:
+        tell("tools/package: the Debian package is not made, without dpkg-deb")
     return 0
-
-
-if __name__ == "__main__":
-    sys.exit(main())

@@ -22,10 +22,13 @@ import os
 import re
 import shutil
 import subprocess
+import sys
 import tempfile
 from typing import Dict, Iterator, List, Optional, Tuple
 
+from labdev.pythons import with_pyelftools
 from labtools.common.program import TOP, end_wrong, path_of_program
+
 
 MARK = re.compile(r"<!-- (lines of|file|run|do)\b ?(.*?) ?-->")
 WITH = re.compile(r"(.*?) ?with (\S+)$")
@@ -64,8 +67,9 @@ def block_after(lines: List[str]) -> str:
 
 def run(command: str, room: str) -> Tuple[int, str, str]:
     """Runs a command in the room, and returns its status and what it prints."""
+    words, env = ["bash", "-e", "-c", command], {**os.environ, "PATH": f"{room}/.python:{os.environ['PATH']}"}
     ran = subprocess.run(
-        ["bash", "-e", "-c", command], cwd=room, stdin=subprocess.DEVNULL, capture_output=True, text=True, timeout=300
+        words, cwd=room, env=env, stdin=subprocess.DEVNULL, capture_output=True, text=True, timeout=300
     )
     return ran.returncode, ran.stdout, ran.stderr
 
@@ -97,6 +101,9 @@ def do_lines(block: str, room: str) -> None:
 
 
 def is_here(needed: str) -> bool:
+    """Whether a program is installed, a file is there, or a Python has pyelftools."""
+    if needed == "pyelftools":
+        return with_pyelftools() is not None
     return shutil.which(needed) is not None or os.path.exists(needed)
 
 
@@ -118,12 +125,16 @@ def try_block(kind: str, words: str, block: str, room: str) -> Optional[str]:
 
 
 def furnish(room: str, program: str) -> None:
-    """Puts `lab`, `tools` and `demo` into a room, as a package has them."""
+    """Puts `lab`, `tools` and `demo` into a room, as a package has them, and a Python, with pyelftools if one has
+    them."""
+    os.mkdir(f"{room}/.python")
+    os.symlink(with_pyelftools() or sys.executable, f"{room}/.python/python3")
     os.mkdir(f"{room}/bin")
     os.symlink(program, f"{room}/bin/lab")
     for name in "lab", "VERSION":
         shutil.copy(f"{TOP}/{name}", f"{room}/{name}")
-    os.symlink(f"{TOP}/tools", f"{room}/tools")
+    for name in "tools", "python":
+        os.symlink(f"{TOP}/{name}", f"{room}/{name}")
     shutil.copytree(f"{TOP}/demo", f"{room}/demo")
 
 

@@ -8,9 +8,9 @@ have received and nobody has read; and a warning for what is mostly a mistake. `
 lab's. The program is that of the variable LAB, and else ./lab of this repository.
 
 Functions and lines are those of the ELF files that the script loads. BOARD=ELF names another one for a board: firmware
-that was loaded in another form, or a snapshot. They are read by binutils (readelf, addr2line), for RISC-V or of the
-system, and else by pyelftools; where there is neither, addresses stay numbers. A line needs firmware that was compiled
-by -g, which changes no byte of what is loaded.
+that was loaded in another form, or a snapshot. pyelftools read them (`apt-get install python3-pyelftools`, or `pip
+install pyelftools`); without these addresses stay numbers, and a line says so. A line of a source needs firmware that
+was compiled by -g, which changes no byte of what is loaded.
 
 It ends with 0, with 1 where the script or the snapshot cannot be taken so far or what it prints cannot be written, with
 2 where its words are wrong, and with 130 where it was interrupted.

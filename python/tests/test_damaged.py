@@ -1,14 +1,9 @@
 """Tries tools/snapshot and tools/where on damaged snapshots and ELF files: those of data/where, with some bytes or a
-count changed, or cut off.
-
-    python/tests/test_damaged.py [COUNT [SEED]]    so many snapshots, 150 if not given, and half as many ELF files, from a seed
+count changed, or cut off: DAMAGED snapshots, 150 if that is not set, and half as many ELF files, from the seed SEED.
 
 A snapshot that `lab check` refuses is told as `no snapshot of lab` in one line, and each other one is shown. A damaged
-ELF file is a warning of a report, and one that is cut off is told by the same words whether binutils or pyelftools
-read. Where one of them is not installed, its files are passed over, which a line says; a stand-in shows then what
-becomes of faults of pyelftools. The program is that of LAB, or else the one that ./lab runs. It prints what is wrong,
-and the damaged file's folder. It ends with 0 where nothing was wrong, with 1 where something was, and with 2 where its
-words are wrong.
+ELF file is a warning of a report. A stand-in shows what becomes of faults of pyelftools. The program is that of LAB, or
+else the one that ./lab runs. A damaged file that is not told so is kept in a folder, which the test names.
 """
 import contextlib
 import dataclasses
@@ -26,12 +21,13 @@ import unittest
 from typing import Any, Callable, Dict, Iterator, List
 from unittest import mock
 
+from labdev.pythons import with_pyelftools
 from labtools import snapshot as snapshot_tool
 from labtools import where as where_tool
 from labtools.boards import snapshot
 from labtools.common.program import TOP, path_of_program
-from labtools.elf import elf_binutils
-from labtools.elf import elf_pyelftools
+from labtools.elf.elf import is_readable
+
 
 DATA = TOP / "python/tests/data/where"
 
@@ -41,7 +37,6 @@ SEED = os.environ.get("SEED", "1")
 VALUES = 0, 1, 2, 3, 4, 15, 16, 0x7F, 0x80, 0xFF
 ELF_HEADER = 52
 IMAGES = "asker=x.elf", "answerer=x.elf"
-HAS_BINUTILS, HAS_PYELFTOOLS = elf_binutils.is_there(), elf_pyelftools.is_there()
 
 
 @dataclasses.dataclass(frozen=True)
@@ -63,7 +58,7 @@ def said_by(name: str, *words: str) -> Said:
     with contextlib.redirect_stdout(printed), contextlib.redirect_stderr(told):
         with mock.patch.object(sys, "argv", [str(TOP / "tools" / name), *words]):
             try:
-                TOOLS[name].main()
+                TOOLS[name].main(list(words))
             except SystemExit as ended:
                 status = ended.code if isinstance(ended.code, int) else 1
                 told.write("" if isinstance(ended.code, int) else f"{ended.code}\n")
@@ -96,9 +91,9 @@ def kept(name: str) -> bytes:
     return pathlib.Path(f"{name}.snap").read_bytes()
 
 
-def damaged_snapshots(count: int, chance: random.Random) -> Iterator[bytes]:
+def damaged_snapshots(whole: List[bytes], count: int, chance: random.Random) -> Iterator[bytes]:
     """Yields damaged snapshots. Pages of memory, in which a change is no damage, stay as they are."""
-    for data in map(kept, ("ask", "work")):
+    for data in whole:
         _, reader = snapshot.read(data)
         pages = [at for at, path, _ in reader.seen if path.endswith(".used")]
         places = [at for at in range(len(data)) if not any(page <= at < page + snapshot.PAGE for page in pages)]
@@ -151,20 +146,14 @@ def damaged_elf_files(count: int, chance: random.Random) -> Iterator[bytes]:
             yield damaged(data, list(parts[number % 3]), chance)
 
 
-def by_reader(name: str) -> Said:
-    """Returns the report of tools/where with a damaged file, which binutils or pyelftools read."""
-    with mock.patch.object(elf_binutils, "is_there", lambda: name == "binutils"):
-        return said_by("where", "ask.snap", *IMAGES)
-
-
-def wrong_with_elf_file(data: bytes, readers: List[str]) -> Iterator[str]:
+def wrong_with_elf_file(data: bytes) -> Iterator[str]:
     pathlib.Path("x.elf").write_bytes(data)
-    reports = {name: by_reader(name) for name in readers}
-    for name, said in reports.items():
-        if said.status != 0 or said.told:
-            yield f"tools/where with an ELF file that {name} read: {said}"
-    if is_cut(data) and len({said.printed for said in reports.values()}) > 1:
-        yield "tools/where says another thing of a file that is cut off by each reader"
+    said = said_by("where", "ask.snap", *IMAGES)
+    if said.status != 0 or said.told:
+        yield f"tools/where with a damaged ELF file: {said}"
+    if len(data) < ELF_HEADER or data[:6] != b"\x7fELF\1\1" or is_cut(data):
+        if said.printed.count("  warning: x.elf: ") != len(IMAGES):
+            yield f"tools/where does not tell a file that is cut off, or none: {said}"
 
 
 def is_cut(data: bytes) -> bool:
@@ -212,24 +201,13 @@ def wrong_with_faults() -> Iterator[str]:
     for stage in stages:
         for fault in AttributeError("no such thing"), KeyError(110), AssertionError(), RecursionError("too deep"):
             with mock.patch.dict(sys.modules, stand_in(stage, fault)):
-                said = by_reader("pyelftools")
+                said = said_by("where", "ask.snap", *IMAGES)
             line = f"  warning: x.elf: cannot be read: {type(fault).__name__}: {fault}"
             if said.status != 0 or said.printed.splitlines().count(line) != len(IMAGES):
                 yield f"tools/where where {stage} of pyelftools fails, without the line '{line}': {said}"
 
 
 # ---- all of it
-
-
-def wrong_with_all(count: int, seed: str) -> Iterator[str]:
-    for data in damaged_snapshots(count, random.Random(f"snapshots {seed}")):
-        yield from wrong_with_snapshot(data)
-    # From now on no program is asked: the snapshot is a whole one.
-    os.environ["LAB"] = "/none/lab"
-    readers = ["binutils"] * HAS_BINUTILS + ["pyelftools"] * HAS_PYELFTOOLS
-    for data in damaged_elf_files(count // 2, random.Random(f"ELF files {seed}")):
-        yield from wrong_with_elf_file(data, readers)
-    yield from wrong_with_faults()
 
 
 def kept_room() -> str:
@@ -239,21 +217,56 @@ def kept_room() -> str:
     return folder
 
 
-class Damaged(unittest.TestCase):
+class InRoom(unittest.TestCase):
+    """In a folder with what data/where has, and a snapshot of each of its laboratories."""
+
     def setUp(self) -> None:
-        os.environ["LAB"] = path_of_program()
         room = tempfile.TemporaryDirectory(prefix="lab-tests-damaged-")
         self.addCleanup(room.cleanup)
         self.addCleanup(os.chdir, os.getcwd())
         shutil.copytree(DATA, room.name, dirs_exist_ok=True)
         os.chdir(room.name)
+        self.given = {"LAB": path_of_program()}
+        setting = mock.patch.dict(os.environ, self.given)
+        setting.start()
+        self.addCleanup(setting.stop)
+        self.kept = [kept(name) for name in ("ask", "work")]
 
-    def test_damaged_files_are_told_in_a_line(self) -> None:
-        for fault in wrong_with_all(COUNT, SEED):
+    def assert_well(self, faults: Iterator[str]) -> None:
+        for fault in faults:
             with self.subTest(fault=fault, room=kept_room()):
                 self.fail()
 
-    def test_both_readers_are_there(self) -> None:
-        for name, is_there in ("binutils", HAS_BINUTILS), ("pyelftools", HAS_PYELFTOOLS):
-            if not is_there:
-                self.skipTest(f"damaged ELF files read by {name}, without {name}")
+
+class Snapshots(InRoom):
+    def test_a_damaged_one_is_told_in_a_line(self) -> None:
+        for data in damaged_snapshots(self.kept, COUNT, random.Random(f"snapshots {SEED}")):
+            self.assert_well(wrong_with_snapshot(data))
+
+
+class ElfFiles(InRoom):
+    """No program is asked here: the snapshot is a whole one."""
+
+    def setUp(self) -> None:
+        super().setUp()
+        os.environ["LAB"] = "/none/lab"
+
+    def test_a_damaged_one_is_a_warning(self) -> None:
+        if not is_readable():
+            self.run_where_pyelftools_are()
+            return
+        for data in damaged_elf_files(COUNT // 2, random.Random(f"ELF files {SEED}")):
+            self.assert_well(wrong_with_elf_file(data))
+
+    def run_where_pyelftools_are(self) -> None:
+        """Runs this test by another Python."""
+        python = with_pyelftools()
+        if python is None:
+            self.skipTest("damaged ELF files, without pyelftools")
+        words = [python, "-m", "unittest", "-q", "tests.test_damaged.ElfFiles.test_a_damaged_one_is_a_warning"]
+        env = {**os.environ, **self.given}
+        ran = subprocess.run(words, cwd=TOP / "python", env=env, capture_output=True, text=True, check=False)
+        self.assertEqual(ran.returncode, 0, ran.stderr)
+
+    def test_each_fault_of_pyelftools_is_a_warning(self) -> None:
+        self.assert_well(wrong_with_faults())

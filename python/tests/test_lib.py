@@ -1,9 +1,9 @@
-"""Tries functions of tools/lib at their limits: which variants and flags a snapshot may have, how paths and names of an
-ELF file are shown, when a processor is said to be in a trap loop, and what the files and runs of a case are. It ends
-with 0, or with 1 where something is wrong.
+"""Tries functions of labtools and labdev at their limits: which variants and flags a snapshot may have, how paths and
+names of an ELF file are shown, when a processor is said to be in a trap loop, and what the files and runs of a case are.
 """
 import os
 import tempfile
+import types
 import unittest
 from typing import Any, Dict, List, Optional, Tuple
 
@@ -12,8 +12,7 @@ from labtools.boards import machine
 from labtools.boards import snapshot
 from labtools.boards import stacks
 from labtools.boards import traps
-from labtools.elf import elf_binutils
-from labtools.elf import elf_parts
+from labtools.elf import elf
 from labtools.elf import unwind
 
 
@@ -109,7 +108,7 @@ class Machines(unittest.TestCase):
 class Images(unittest.TestCase):
     def test_marks_of_the_assembler_are_no_functions(self) -> None:
         names = "main", "_start", "a.part.0", "", "$x", "$d", ".L4"
-        self.assertEqual([name for name in names if elf_parts.is_code_name(name)], ["main", "_start", "a.part.0"])
+        self.assertEqual([name for name in names if elf.is_code_name(name)], ["main", "_start", "a.part.0"])
 
     def test_a_path_is_shown_from_this_folder_on_where_it_lies_in_it(self) -> None:
         before = os.getcwd()
@@ -125,27 +124,24 @@ class Images(unittest.TestCase):
                 "../main.c": "../main.c",
             }
             for path, wanted in shown.items():
-                self.assertEqual(elf_parts.short(path), wanted)
+                self.assertEqual(elf.short(path), wanted)
             os.chdir(before)
 
 
 class Tables(unittest.TestCase):
-    """What `readelf --debug-dump=frames-interp` prints of a function."""
+    """Rows of a table of frames, as pyelftools give them: register 2 is sp, 1 is ra, and 32 a floating-point one."""
 
-    def test_rows_are_addresses(self) -> None:
-        told = [
-            "   LOC   CFA      ra",
-            "80000000 sp+0     u",
-            "  DW_CFA_expression: r9 (x)",
-            "80000004 sp+16    c-4",
-            "80000008 ft0+16   c-4",
-        ]
-        rows = [
-            elf_parts.Row(0x80000000, ("sp", 0), {}),
-            elf_parts.Row(0x80000004, ("sp", 16), {"ra": -4}),
-            elf_parts.Row(0x80000008, None, {"ra": -4}),
-        ]
-        self.assertEqual(list(elf_binutils.read_rows(told)), rows)
+    def test_only_sums_of_a_register_and_offsets_of_registers_are_taken(self) -> None:
+        saved = types.SimpleNamespace(type="OFFSET", arg=-4)
+        other = types.SimpleNamespace(type="EXPRESSION", arg=[0x70])
+        for base, rules, wanted in (
+            ((2, 0, None), {}, elf.Row(0x80000000, (2, 0), {})),
+            ((2, 16, None), {1: saved, 8: other}, elf.Row(0x80000000, (2, 16), {1: -4})),
+            ((32, 16, None), {1: saved, 33: saved}, elf.Row(0x80000000, None, {1: -4})),
+            ((None, None, [0x72]), {}, elf.Row(0x80000000, None, {})),
+        ):
+            cfa = types.SimpleNamespace(reg=base[0], offset=base[1], expr=base[2])
+            self.assertEqual(elf.row_of({"pc": 0x80000000, "cfa": cfa, **rules}), wanted)
 
 
 class Traps(unittest.TestCase):

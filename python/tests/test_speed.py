@@ -7,6 +7,7 @@ not compared with what an assembler gives, and a line says so.
 import json
 import os
 import pathlib
+import shutil
 import re
 import subprocess
 import sys
@@ -18,12 +19,11 @@ from labtools.common.program import TOP
 from labdev import speed_loads
 from labtools.boards import machine
 from labtools.boards import snapshot
-from labtools.elf import elf_binutils
 
 
 LAB = os.environ.get("LAB", str(TOP / "lab"))
-ASSEMBLER = elf_binutils.program("as"), elf_binutils.program("objcopy")
-HAS_ASSEMBLER = all(path and "riscv" in path for path in ASSEMBLER)
+ASSEMBLER = shutil.which("riscv64-unknown-elf-as"), shutil.which("riscv64-unknown-elf-objcopy")
+HAS_ASSEMBLER = all(ASSEMBLER)
 # What stands in for valgrind: a run has 5,000,000 machine instructions and 7,350 for each microsecond, and prints two
 # bytes for each; `gen` has 148,000,000 and prints nothing.
 VALGRIND = r"""#!/bin/sh

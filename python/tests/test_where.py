@@ -1,8 +1,6 @@
 """Tries tools/where, and what tools/snapshot shows as hexadecimal, on the firmware in data/where, whose README.md
-derives what is expected. The program is that of the variable LAB, and else ./lab. Without binutils the tests that need
-them are passed over, and a line says so.
-
-    python/tests/test_where.py [NAME ..]
+derives what is expected. The program is that of the variable LAB, and else ./lab. Without a Python that has pyelftools
+the tests that need them are passed over.
 """
 import contextlib
 import json
@@ -18,18 +16,15 @@ import time
 import unittest
 from typing import Any, Callable, Dict, List, Tuple
 
-from labtools.common.program import TOP
+from labdev.pythons import with_pyelftools
 from labtools.boards import machine
-from labtools.elf import elf_binutils
+from labtools.common.program import TOP
 from labtools.elf import unwind
 
+
 DATA = TOP / "python/tests/data/where"
-
-
 LAB = os.environ.get("LAB", str(TOP / "lab"))
-PYTHONS = [sys.executable, "/usr/bin/python3"]
-WORK_IMAGES = ["worker=work.elf", "talker=talk.elf", "faulty=fault.elf", "machine-3=fault.elf"]
-HAS_BINUTILS = elf_binutils.is_there()
+PYTHON = with_pyelftools() or sys.executable
 
 # A board with a finisher, whose program ends a run in its first microseconds and then stays.
 FINISHER = """ram: Memory.MappedMemory @ sysbus 0x80000000 { size: 0x1000 }
@@ -52,14 +47,6 @@ start
 """
 
 
-def runs(python: str, line: str) -> bool:
-    """Whether a Python is there and runs this line without a fault."""
-    try:
-        return subprocess.run([python, "-c", line], capture_output=True).returncode == 0
-    except OSError:
-        return False
-
-
 class InRoom(unittest.TestCase):
     """A test with a folder of its own, in which a copy of data/where stands."""
 
@@ -71,7 +58,7 @@ class InRoom(unittest.TestCase):
 
     def run_tool(self, name: str, *words: str, **settings: str) -> Tuple[int, str, str]:
         """Returns how a script of tools/ ends, and what it prints."""
-        command = [sys.executable, str(TOP / "tools" / name), *words]
+        command = [PYTHON, str(TOP / "tools" / name), *words]
         env = {**os.environ, **settings}
         ran = subprocess.run(command, cwd=self.room, env=env, capture_output=True, text=True, timeout=300)
         return ran.returncode, ran.stdout, ran.stderr
@@ -99,7 +86,7 @@ class InRoom(unittest.TestCase):
         subprocess.run([LAB, "run", "keep.resc"], cwd=self.room, stdout=subprocess.DEVNULL, check=True)
 
 
-@unittest.skipUnless(HAS_BINUTILS, "the reports, without readelf and addr2line")
+@unittest.skipUnless(with_pyelftools(), "the reports, without pyelftools")
 class Reports(InRoom):
     def test_a_board_that_waits_for_a_byte_and_one_whose_handler_is_not_aligned(self) -> None:
         self.assertEqual(self.where("ask.resc"), self.expected("ask.txt"))
@@ -108,9 +95,12 @@ class Reports(InRoom):
         self.assertEqual(self.where("work.resc", "talker=talk.elf"), self.expected("work.txt"))
 
     def test_a_snapshot_says_the_same_as_its_script(self) -> None:
-        self.keep("ask.resc")
-        text = self.where("kept", "asker=ask.elf", "answerer=answer.elf")
-        self.assertEqual(text, self.expected("ask.txt"))
+        for script, images in (
+            ("ask", ["asker=ask.elf", "answerer=answer.elf"]),
+            ("work", ["worker=work.elf", "talker=talk.elf", "faulty=fault.elf", "machine-3=fault.elf"]),
+        ):
+            self.keep(f"{script}.resc")
+            self.assertEqual(self.where("kept", *images), self.expected(f"{script}.txt"))
 
     def test_of_two_files_of_a_board_each_tells_its_own_addresses(self) -> None:
         self.keep("ask.resc")
@@ -118,30 +108,6 @@ class Reports(InRoom):
         self.assertIn("asker talk.elf ask.elf\n", text)
         self.assertIn("    pc         0x80000018 has_byte ask.c:6, inlined in receive ask.c:11\n", text)
         self.assertIn("  warning: memory differs from .text of talk.elf in ", text)
-
-    def test_the_readelf_and_addr2line_of_the_system_are_enough(self) -> None:
-        plain = self.room / "plain"
-        plain.mkdir()
-        for tool in "readelf", "addr2line":
-            path = shutil.which(tool)
-            if path is None:
-                self.skipTest(f"the reports by the tools of the system, without {tool}")
-            (plain / tool).symlink_to(path)
-        self.keep("ask.resc")
-        text = self.where("kept", "asker=ask.elf", "answerer=answer.elf", PATH=str(plain))
-        self.assertEqual(text, self.expected("ask.txt"))
-
-    def test_pyelftools_say_the_same_where_there_are_no_binutils(self) -> None:
-        has_it = [python for python in PYTHONS if runs(python, "import elftools")]
-        if not has_it:
-            self.skipTest("the reports by pyelftools, without pyelftools")
-        for script, images in ("ask.resc", ["asker=ask.elf", "answerer=answer.elf"]), ("work.resc", WORK_IMAGES):
-            self.keep(script)
-            words = [has_it[0], str(TOP / "tools/where"), "kept", *images]
-            env = {**os.environ, "PATH": str(self.room / "none")}
-            ran = subprocess.run(words, cwd=self.room, env=env, capture_output=True, text=True, timeout=300)
-            self.assertEqual((ran.returncode, ran.stderr), (0, ""))
-            self.assertEqual(ran.stdout, self.expected(script.replace(".resc", ".txt")))
 
     def test_what_is_no_elf_file_is_told(self) -> None:
         self.keep("ask.resc")
@@ -166,7 +132,7 @@ class Reports(InRoom):
 
     def test_json_is_the_same_as_data(self) -> None:
         told = json.loads(self.where("ask.resc", "--json"))
-        self.assertEqual(told["time"], 1000)
+        self.assertEqual((told["time"], told["warnings"]), (1000, []))
         self.assertEqual([board["name"] for board in told["boards"]], ["asker", "answerer"])
         board = told["boards"][1]
         (hart,) = board.pop("harts")
@@ -431,15 +397,21 @@ class Faults(InRoom):
         self.assertEqual(status, 0)
         self.assertIn("tools/where [--at TIME]", text)
 
-    def test_without_binutils_addresses_stay_numbers(self) -> None:
+    def test_without_pyelftools_addresses_stay_numbers_and_a_line_says_so(self) -> None:
         self.keep("ask.resc")
         (self.room / "elftools.py").write_text("raise ImportError\n")
-        text = self.where("kept", "asker=ask.elf", PATH=str(self.room / "none"), PYTHONPATH=str(self.room))
+        words = "kept", "asker=ask.elf", "answerer=none.elf"
+        text = self.where(*words, PYTHONPATH=str(self.room))
         self.assertIn("    pc         0x80000018\n", text)
         self.assertIn("    stack    0 0x80000018\n             1 0x8000003c ?\n    zero", text)
-        self.assertIn(
-            "  warning: no readelf, addr2line, riscv*-readelf or pyelftools is there: install binutils\n", text
+        line = (
+            "functions and lines are not told, without pyelftools: `apt-get install python3-pyelftools` or"
+            " `pip install pyelftools` for this Python"
         )
+        self.assertTrue(text.endswith(f"\n\nwarning: {line}\n"), text)
+        told = json.loads(self.where("--json", *words, PYTHONPATH=str(self.room)))
+        self.assertEqual(told["warnings"], [line])
+        self.assertNotIn("pyelftools", self.where("kept", PYTHONPATH=str(self.room)))
 
     def test_a_number_of_5000_digits_is_that_of_a_board(self) -> None:
         lines = self.expected("ask.resc").split("emulation RunFor")[0]

@@ -7,8 +7,7 @@ from labtools.boards import stacks
 from labtools.boards import traps
 from labtools.boards.machine import ABI_NAMES, PINS, Device, Hart, Machine, machine_of
 from labtools.boards.traps import INTERRUPT
-from labtools.elf.elf import Elf
-from labtools.elf.elf_parts import Line, NoElf, Section
+from labtools.elf.elf import NO_READER, Elf, Line, NoElf, Section, is_readable
 from labtools.elf.unwind import SP, Code, Stack
 
 
@@ -118,10 +117,11 @@ class BoardReport:
 
 @dataclass(frozen=True)
 class Report:
-    """A laboratory at a lab time in microseconds."""
+    """A laboratory at a lab time in microseconds, with what is to be said of the report itself."""
 
     time: int
     boards: List[BoardReport]
+    warnings: List[str] = field(default_factory=list)
 
 
 class Board:
@@ -259,17 +259,23 @@ def waiting(device: Device) -> Waiting:
     return Waiting(device.name, device.kind, received, device.state["overrun"])
 
 
-def board_report(held: Dict[str, Any], time: int, paths: List[str]) -> BoardReport:
-    """Returns what is to be said of a board of a snapshot, with the ELF files at these paths."""
-    machine = machine_of(held, time)
-    if machine is None:
-        return BoardReport(held["name"], paths, warnings=["it has no platform"])
+def elves_of(paths: List[str]) -> Tuple[List[Elf], List[str]]:
+    """Returns the ELF files at these paths that can be read, and what is to be said of the others."""
     elves, warnings = [], []
     for path in paths:
         try:
             elves.append(Elf(path))
         except NoElf as fault:
             warnings.append(str(fault))
+    return elves, warnings
+
+
+def board_report(held: Dict[str, Any], time: int, paths: List[str], is_with_elves: bool) -> BoardReport:
+    """Returns what is to be said of a board of a snapshot, with the ELF files at these paths if they can be read."""
+    machine = machine_of(held, time)
+    if machine is None:
+        return BoardReport(held["name"], paths, warnings=["it has no platform"])
+    elves, warnings = elves_of(paths if is_with_elves else [])
     if not paths:
         warnings.append(f"no ELF file is known of it: say {held['name']}=FILE")
     board = Board(machine, elves)
@@ -288,5 +294,8 @@ def board_report(held: Dict[str, Any], time: int, paths: List[str]) -> BoardRepo
 
 def report_of(held: Dict[str, Any], images: Dict[str, List[str]]) -> Report:
     """Returns what is to be said of a laboratory, with the paths of the ELF files of each board by its name."""
-    boards = [board_report(board, held["time"], images.get(board["name"], [])) for board in held["boards"]]
-    return Report(held["time"], boards)
+    is_with_elves = is_readable()
+    boards = [
+        board_report(board, held["time"], images.get(board["name"], []), is_with_elves) for board in held["boards"]
+    ]
+    return Report(held["time"], boards, [NO_READER] if any(images.values()) and not is_with_elves else [])

@@ -109,3 +109,6 @@ def lines_of(report: Report) -> Iterator[str]:
     yield f"at {report.time // 1_000_000}.{report.time % 1_000_000:06}"
     for board in report.boards:
         yield from board_lines(board)
+    if report.warnings:
+        yield ""
+        yield from (f"warning: {warning}" for warning in report.warnings)

@@ -13,7 +13,7 @@ import signal
 import subprocess
 import sys
 from types import ModuleType
-from typing import Callable, Collection, List, NoReturn, Optional
+from typing import Callable, Collection, Dict, List, NoReturn, Optional
 
 # The package `labtools` itself, whose modules are the tools.
 TOOLS = pathlib.Path(__file__).resolve().parents[1]
@@ -65,20 +65,28 @@ def name_of_script() -> str:
     return str(path.relative_to(TOP)) if TOP in path.parents else sys.argv[0]
 
 
+def forms_of(head: Optional[str]) -> str:
+    """Returns the lines of a script's head that say with which words it is called."""
+    return as_called(head).split("\n\n")[1]
+
+
 def parser_of(head: Optional[str]) -> argparse.ArgumentParser:
     """Returns a parser for the words of the script that runs, which shows its forms where they are wrong."""
-    said = as_called(head)
-    forms = said.split("\n\n")[1].strip().replace("%", "%%")
+    said, forms = as_called(head), forms_of(head).strip().replace("%", "%%")
     form = argparse.RawDescriptionHelpFormatter
     return argparse.ArgumentParser(prog=name_of_script(), usage=forms, description=said, formatter_class=form)
 
 
+def tell(text: str) -> None:
+    """Prints a line on the standard error, which may be full, or closed: it is none then."""
+    with contextlib.suppress(OSError, AttributeError):
+        sys.stderr.write(f"{text}\n")
+        sys.stderr.flush()
+
+
 def end_wrong(text: object, status: int = 2) -> NoReturn:
     """Ends the script with a line on the standard error."""
-    # It may be full, or closed: it is none then.
-    with contextlib.suppress(OSError, AttributeError):
-        sys.stderr.write(f"{name_of_script()}: {text}\n")
-        sys.stderr.flush()
+    tell(f"{name_of_script()}: {text}")
     raise SystemExit(status)
 
 
@@ -187,11 +195,16 @@ def run_tool(tool: ModuleType) -> NoReturn:
     end_with(lambda: main(sys.argv[1:]), failed)
 
 
+def environment() -> Dict[str, str]:
+    """Returns the environment of ./lab, by which it has this Python explain what a run leaves unsaid."""
+    return {"LAB_PYTHON": sys.executable, **os.environ}
+
+
 def run_lab() -> NoReturn:
-    """Becomes ./lab, which has this Python explain what a run leaves unsaid."""
+    """Becomes ./lab."""
     lab = str(TOP / "lab")
     try:
-        os.execve(lab, [lab, *sys.argv[1:]], {"LAB_PYTHON": sys.executable, **os.environ})
+        os.execve(lab, [lab, *sys.argv[1:]], environment())
     except OSError as fault:
         end_wrong(f"{lab}: {fault.strerror}", 70)
 

@@ -1,60 +1,199 @@
-"""What functions and lines of an ELF file are at addresses. binutils read it, or pyelftools where there are none."""
+"""What functions, lines and frames of an ELF file are at addresses, as pyelftools read it. Whatever fault they find is
+told as NoElf, and so are those that they read over."""
 import bisect
+import contextlib
+import importlib
+import io
 import os
 import pathlib
-from typing import Any, Callable, Dict, Iterable, List, Optional, Union
-
-from labtools.elf import elf_binutils
-from labtools.elf import elf_form
-from labtools.elf import elf_pyelftools
-from labtools.elf.elf_parts import Line, NoElf, Row, Symbol
+import struct
+from dataclasses import dataclass
+from typing import Any, Dict, Iterable, Iterator, List, Optional, Tuple
 
 
-NO_READER = "no readelf, addr2line, riscv*-readelf or pyelftools is there: install binutils"
+NO_READER = (
+    "functions and lines are not told, without pyelftools: `apt-get install python3-pyelftools` or"
+    " `pip install pyelftools` for this Python"
+)
+# The beginning of a file of 32 bits that has the lowest byte first, and the number of the machine.
+IDENT, RISCV = b"\x7fELF\x01\x01", 243
+HEADER = struct.Struct("<16sHHIIIIIHHHHHH")
+SEGMENT_SIZE, SECTION_SIZE, SYMBOL_SIZE = 32, 40, 16
+WRITE, ALLOC, EXECUTE = 1, 2, 4
+REGISTERS = 32
+INLINED = "DW_TAG_inlined_subroutine"
+SCOPES = ("DW_TAG_subprogram", INLINED, "DW_TAG_lexical_block")
+
+
+class NoElf(Exception):
+    """The file cannot be read as an ELF file: why."""
+
+
+@dataclass(frozen=True)
+class Symbol:
+    """A name of code. `size` is 0 where it is not known, as mostly of labels in assembler."""
+
+    address: int
+    size: int
+    name: str
+    is_function: bool
+    is_global: bool
+
+
+@dataclass(frozen=True)
+class Section:
+    """Bytes of the file that are loaded. `address` is where they run, and `load` where they are loaded."""
+
+    name: str
+    address: int
+    load: int
+    data: bytes
+    is_written: bool
+
+
+@dataclass(frozen=True)
+class Line:
+    """A function and the line of its source; None where it is not known."""
+
+    function: Optional[str]
+    file: Optional[str]
+    line: Optional[int]
+
+
+@dataclass(frozen=True)
+class Row:
+    """How the frame of a function is laid out from an address on: the caller's stack pointer is that register and an
+    offset, or None where it is no such sum, and `saved` has the places of registers relative to it."""
+
+    address: int
+    base: Optional[Tuple[int, int]]
+    saved: Dict[int, int]
+
+
+@dataclass(frozen=True)
+class Frames:
+    """The rows of the addresses from `first` to before `end`."""
+
+    first: int
+    end: int
+    rows: List[Row]
+
+
+@dataclass(frozen=True, order=True)
+class Span:
+    """The addresses from `first` to before `end`, which are of a line of a file, by its number in a unit."""
+
+    first: int
+    end: int
+    unit: int
+    file: int
+    line: int
+
+
+def is_readable() -> bool:
+    """Whether pyelftools are there."""
+    try:
+        importlib.import_module("elftools.elf.elffile")
+    except ImportError:
+        return False
+    return True
+
+
+@contextlib.contextmanager
+def faults_told(path: str) -> Iterator[None]:
+    """Tells a fault of pyelftools by its words. On a damaged file these end with whatever error of Python comes."""
+    try:
+        yield
+    except NoElf:
+        raise
+    except Exception as fault:
+        raise NoElf(f"{path}: cannot be read: {type(fault).__name__}: {fault}") from fault
 
 
 def content_of(path: str) -> bytes:
-    """Returns what an ELF file holds."""
+    """Returns what a plain file holds that begins as an ELF file of 32 bits for RISC-V."""
     try:
         if os.path.exists(path) and not os.path.isfile(path):
             raise NoElf(f"{path}: it is no plain file")
         data = pathlib.Path(path).read_bytes()
     except OSError as fault:
         raise NoElf(f"{path}: {fault.strerror}") from fault
-    fault = elf_form.fault_of(data)
-    if fault:
-        raise NoElf(f"{path}: {fault}")
+    if len(data) < HEADER.size or data[: len(IDENT)] != IDENT or HEADER.unpack_from(data)[2] != RISCV:
+        raise NoElf(f"{path}: it is no ELF file of 32 bits for RISC-V")
     return data
 
 
-def reading_of(path: str, data: bytes) -> Union[elf_binutils.Reading, elf_pyelftools.Reading]:
-    if elf_binutils.is_there():
-        return elf_binutils.Reading(path, data)
-    if elf_pyelftools.is_there():
-        return elf_pyelftools.Reading(path, data)
-    raise NoElf(NO_READER)
+def faults_of_header(data: bytes) -> Iterator[str]:
+    """Yields what is wrong with the places of the tables, which may be that of a file that was cut off."""
+    head = HEADER.unpack_from(data)
+    tables = (("segments", head[5], head[9:11], SEGMENT_SIZE), ("sections", head[6], head[11:13], SECTION_SIZE))
+    for name, at, (size, count), wanted in tables:
+        if count and size != wanted:
+            yield f"the headers of its {name} have {size} bytes, and not {wanted}"
+        if at + count * wanted > len(data):
+            yield f"the headers of its {name} end behind its end"
+    if head[12] and head[13] >= head[12]:
+        yield "the names of its sections are nowhere"
+
+
+def faults_of_parts(file: Any, size: int) -> Iterator[str]:
+    """Yields what is wrong with the segments and sections of a file of so many bytes."""
+    sections = list(file.iter_sections())
+    held = [it for it in enumerate(sections) if it[1]["sh_type"] not in ("SHT_NULL", "SHT_NOBITS")]
+    parts = [(f"segment {number}", it["p_offset"], it["p_filesz"]) for number, it in enumerate(file.iter_segments())]
+    parts += [(f"section {number}", it["sh_offset"], it["sh_size"]) for number, it in held]
+    yield from (f"{name} ends behind its end" for name, at, count in parts if count and at + count > size)
+    if sections and sections[file["e_shstrndx"]]["sh_type"] != "SHT_STRTAB":
+        yield "the names of its sections are nowhere"
+    for number, it in held:
+        if it["sh_type"] == "SHT_SYMTAB" and (it["sh_entsize"] != SYMBOL_SIZE or it["sh_size"] % SYMBOL_SIZE):
+            yield f"section {number} has symbols of {it['sh_entsize']} bytes, and not {SYMBOL_SIZE}"
+        if it["sh_type"] == "SHT_SYMTAB" and sections[it["sh_link"]]["sh_type"] != "SHT_STRTAB":
+            yield "the names of its symbols are nowhere"
 
 
 class Elf:
-    """An ELF file whose sections and names of code can be read. `fault` is what is wrong with the rest, or None: with its
-    frames, or with its lines, which are read when somebody asks for them."""
+    """An ELF file whose sections and names of code can be read. `fault` is what is wrong with the rest, or None: with
+    its frames, or with its lines, which are read when somebody asks for them."""
 
     def __init__(self, path: str) -> None:
         self.path = path
         self.fault: Optional[str] = None
-        self.reading = reading_of(path, content_of(path))
-        self.sections = self.reading.sections
-        self.symbols = best_of(self.reading.symbols)
-        self.frames = self.told(self.reading.read_frames)
+        data = content_of(path)
+        with faults_told(path):
+            self.refuse(faults_of_header(data))
+            self.file = importlib.import_module("elftools.elf.elffile").ELFFile(io.BytesIO(data))
+            self.refuse(faults_of_parts(self.file, len(data)))
+            self.sections = list(read_sections(self.file))
+            self.symbols = best_of(read_symbols(self.file))
+        self.dwarf: Any = None
+        self.units: List[Any] = []
+        self.frames: List[Frames] = []
+        self.spans: Optional[List[Span]] = None
         self.lines: Dict[int, List[Line]] = {}
+        with self.faults_kept():
+            self.read_frames()
 
-    def told(self, read: Callable[[], List[Any]]) -> List[Any]:
-        """Returns what can be read, and nothing where there is a fault, of which the first is kept."""
+    def refuse(self, faults: Iterator[str]) -> None:
+        """Tells what is wrong first, if anything is."""
+        for fault in faults:
+            raise NoElf(f"{self.path}: cannot be read: {fault}")
+
+    @contextlib.contextmanager
+    def faults_kept(self) -> Iterator[None]:
+        """Ends what cannot be read of the frames or the lines. The first fault is kept."""
         try:
-            return read()
+            with faults_told(self.path):
+                yield
         except NoElf as fault:
             self.fault = self.fault or str(fault)
-            return []
+
+    def read_frames(self) -> None:
+        """Reads the frames, and which units have lines. Without frames there are no lines."""
+        dwarf = self.file.get_dwarf_info() if self.file.has_dwarf_info() else None
+        self.frames = list(frames_in(dwarf)) if dwarf else []
+        self.units = list(dwarf.iter_CUs()) if dwarf and dwarf.has_debug_info else []
+        self.dwarf = dwarf
 
     def function_at(self, address: int) -> Optional[Symbol]:
         """Returns the function, or the label, in which an address lies."""
@@ -76,9 +215,54 @@ class Elf:
 
     def lines_at(self, address: int) -> List[Line]:
         """Returns the source of an address, the innermost of inlined functions first."""
+        if self.spans is None:
+            self.spans = []
+            with self.faults_kept():
+                self.spans = sorted(spans_of(self.dwarf, self.units))
         if address not in self.lines:
-            self.lines[address] = self.told(lambda: self.reading.lines_at(address))
+            self.lines[address] = []
+            with self.faults_kept():
+                self.lines[address] = list(self.read_lines(self.spans, address))
         return self.lines[address]
+
+    def read_lines(self, spans: List[Span], address: int) -> Iterator[Line]:
+        at = bisect.bisect_left(spans, Span(address + 1, 0, 0, 0, 0)) - 1
+        if at >= 0 and address < spans[at].end:
+            unit = self.units[spans[at].unit]
+            program = self.dwarf.line_program_for_CU(unit)
+            yield from lines_of(unit, program, scopes_at(unit.get_top_DIE(), address), spans[at])
+
+
+def read_sections(file: Any) -> Iterator[Section]:
+    """Yields the sections that are loaded."""
+    segments = [it for it in file.iter_segments() if it["p_type"] == "PT_LOAD"]
+    for it in file.iter_sections():
+        if it["sh_flags"] & ALLOC and it["sh_type"] != "SHT_NOBITS" and it["sh_size"] > 0:
+            load = it["sh_addr"] + moved_by(it["sh_offset"], segments)
+            yield Section(it.name, it["sh_addr"], load, it.data(), bool(it["sh_flags"] & WRITE))
+
+
+def moved_by(offset: int, segments: List[Any]) -> int:
+    """Returns how far behind the address at which it runs a byte is loaded that stands at this place of the file."""
+    for it in segments:
+        if it["p_offset"] <= offset < it["p_offset"] + it["p_filesz"]:
+            return int(it["p_paddr"] - it["p_vaddr"])
+    return 0
+
+
+def read_symbols(file: Any) -> Iterator[Symbol]:
+    """Yields the names in sections of code."""
+    code = [number for number, section in enumerate(file.iter_sections()) if section["sh_flags"] & EXECUTE]
+    table = file.get_section_by_name(".symtab")
+    for it in table.iter_symbols() if table else []:
+        kind, binding = it["st_info"]["type"], it["st_info"]["bind"]
+        if it["st_shndx"] in code and kind in ("STT_FUNC", "STT_NOTYPE") and is_code_name(it.name):
+            yield Symbol(it["st_value"], it["st_size"], it.name, kind == "STT_FUNC", binding == "STB_GLOBAL")
+
+
+def is_code_name(name: str) -> bool:
+    """Whether a symbol is a function or a label, and not a mark of the assembler."""
+    return name != "" and name[0] not in "$."
 
 
 def best_of(symbols: Iterable[Symbol]) -> List[Symbol]:
@@ -89,3 +273,111 @@ def best_of(symbols: Iterable[Symbol]) -> List[Symbol]:
         if other is None or (other.is_function, other.is_global) < (symbol.is_function, symbol.is_global):
             best[symbol.address] = symbol
     return [best[address] for address in sorted(best)]
+
+
+# ---- frames
+
+
+def frames_in(dwarf: Any) -> Iterator[Frames]:
+    """Yields what .debug_frame and .eh_frame say."""
+    entries = [
+        *(dwarf.CFI_entries() if dwarf.has_CFI() else []),
+        *(dwarf.EH_CFI_entries() if dwarf.has_EH_CFI() else []),
+    ]
+    for entry in entries:
+        if getattr(entry, "cie", None) is not None:
+            first = entry["initial_location"]
+            table = entry.get_decoded().table or entry.cie.get_decoded().table
+            yield Frames(first, first + entry["address_range"], [row_of(row) for row in table])
+
+
+def row_of(row: Dict[Any, Any]) -> Row:
+    """Returns a row of pyelftools, whose other keys are `pc` and `cfa`."""
+    base = row["cfa"]
+    is_sum = base.expr is None and base.reg < REGISTERS
+    rules = {number: rule for number, rule in row.items() if isinstance(number, int) and number < REGISTERS}
+    saved = {number: rule.arg for number, rule in rules.items() if rule.type == "OFFSET"}
+    return Row(row["pc"], (base.reg, base.offset) if is_sum else None, saved)
+
+
+# ---- lines
+
+
+def spans_of(dwarf: Any, units: List[Any]) -> Iterator[Span]:
+    """Yields what the line programs of the units say."""
+    for number, unit in enumerate(units):
+        program = dwarf.line_program_for_CU(unit)
+        before = None
+        for state in (entry.state for entry in program.get_entries() if entry.state) if program else ():
+            if before is not None and not before.end_sequence and before.address < state.address:
+                yield Span(before.address, state.address, number, before.file, before.line)
+            before = state
+
+
+def scopes_at(die: Any, address: int) -> List[Any]:
+    """Returns the functions around an address, the outermost first, with those that are inlined."""
+    for child in die.iter_children():
+        if child.tag in SCOPES and any(first <= address < end for first, end in ranges_of(child)):
+            return [child] * (child.tag != "DW_TAG_lexical_block") + scopes_at(child, address)
+    return []
+
+
+def ranges_of(die: Any) -> Iterator[Tuple[int, int]]:
+    """Yields the addresses of a function or a block."""
+    found = die.attributes
+    if "DW_AT_low_pc" in found and "DW_AT_high_pc" in found:
+        low, high = found["DW_AT_low_pc"].value, found["DW_AT_high_pc"]
+        yield low, high.value if high.form == "DW_FORM_addr" else low + high.value
+    elif "DW_AT_ranges" in found and found["DW_AT_ranges"].form == "DW_FORM_sec_offset":
+        top = die.cu.get_top_DIE().attributes
+        base = top["DW_AT_low_pc"].value if "DW_AT_low_pc" in top else 0
+        lists = die.cu.dwarfinfo.range_lists()
+        for entry in lists.get_range_list_at_offset(found["DW_AT_ranges"].value, die.cu):
+            if hasattr(entry, "base_address"):
+                base = entry.base_address
+            else:
+                start = 0 if getattr(entry, "is_absolute", False) else base
+                yield start + entry.begin_offset, start + entry.end_offset
+
+
+def lines_of(unit: Any, program: Any, scopes: List[Any], span: Span) -> Iterator[Line]:
+    """Yields a place of a line program, and then those at which the functions around it are inlined."""
+    file, line = span.file, span.line
+    for scope in reversed(scopes):
+        yield Line(name_of(scope), file_of(unit, program, file), line or None)
+        if scope.tag == INLINED:
+            file, line = (scope.attributes[name].value for name in ("DW_AT_call_file", "DW_AT_call_line"))
+    if not scopes:
+        yield Line(None, file_of(unit, program, file), line or None)
+
+
+def name_of(die: Any) -> Optional[str]:
+    """Returns the name of a function, which may stand where it is declared."""
+    for name in "DW_AT_abstract_origin", "DW_AT_specification":
+        if "DW_AT_name" not in die.attributes and name in die.attributes:
+            die = die.get_DIE_from_attribute(name)
+    return text_of(die.attributes["DW_AT_name"].value) if "DW_AT_name" in die.attributes else None
+
+
+def file_of(unit: Any, program: Any, number: int) -> str:
+    """Returns the path of a file by its number in a line program. Up to DWARF 4 they are numbered from 1, and folder 0
+    is that of the unit."""
+    header = program.header
+    first = 0 if header["version"] >= 5 else 1
+    entry = header["file_entry"][number - first]
+    folders = [text_of(folder) for folder in header["include_directory"]]
+    top = unit.get_top_DIE().attributes
+    own = text_of(top["DW_AT_comp_dir"].value) if "DW_AT_comp_dir" in top else ""
+    folder = ([own] * first + folders)[entry.dir_index]
+    return short(os.path.join(own, folder, text_of(entry.name)))
+
+
+def text_of(value: bytes) -> str:
+    return value.decode(errors="replace")
+
+
+def short(path: str) -> str:
+    """Returns a path without `.` in it, and from this folder on where it lies in it."""
+    path = os.path.normpath(path)
+    inside = os.path.relpath(path)
+    return inside if os.path.isabs(path) and not inside.startswith("..") else path

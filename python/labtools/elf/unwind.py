@@ -4,8 +4,7 @@ from dataclasses import dataclass
 from typing import Dict, List, Optional, Set, Tuple
 
 from labtools.boards.machine import ABI_NAMES, PINS, Hart, Memory
-from labtools.elf.elf import Elf
-from labtools.elf.elf_parts import Symbol
+from labtools.elf.elf import Elf, Symbol
 
 
 MOST_FRAMES = 64
@@ -97,11 +96,9 @@ class Stack:
         row = elf.row_at(frame.place) if elf else None
         if row is None:
             return self.guessed(frame)
-        if row.base is None or ABI_NAMES.index(row.base[0]) not in frame.registers:
+        if row.base is None or row.base[0] not in frame.registers:
             return {}, True
-        top = frame.registers[ABI_NAMES.index(row.base[0])] + row.base[1]
-        saved = {ABI_NAMES.index(name): at for name, at in row.saved.items() if name in ABI_NAMES}
-        return self.restored(frame, top, saved), False
+        return self.restored(frame, frame.registers[row.base[0]] + row.base[1], row.saved), False
 
     def restored(self, frame: Frame, top: int, saved: Dict[int, int]) -> Registers:
         """Returns the registers of a frame with those that it has saved, at places relative to the end of its stack."""

@@ -1,15 +1,10 @@
 """Folds equal accesses that repeat, as a board makes them that polls an address where nothing stands: the first of them
-stands for all, with their count and the time of the last. It changes no log, and folds nothing else.
-
-    python3 folded.py <DIFFERENCE    prints the output of `diff -u` over two logs, folded
-"""
+stands for all, with their count and the time of the last. It changes no log, and folds nothing else."""
 import dataclasses
 import re
 import sys
 from collections import deque
 from typing import Callable, Deque, Dict, Generic, Iterable, Iterator, Optional, Tuple, TypeVar
-
-from labtools.common.program import end_with
 
 
 Item = TypeVar("Item")
@@ -90,15 +85,3 @@ def difference(lines: Iterable[str]) -> Iterator[str]:
     """Yields the lines of a difference, without line feeds, as `diff -u` prints it of two logs: folded. The numbers in
     the heads of its hunks stay those of the logs."""
     yield from map(text_of, rows(lines, Hunks().access_of, HELD))
-
-
-def main() -> None:
-    """Each byte is a character here, so that what is no text comes out as it went in."""
-    for stream in sys.stdin, sys.stdout:
-        stream.reconfigure(encoding="latin-1", newline="\n")
-    for line in difference(it.rstrip("\n") for it in sys.stdin):
-        sys.stdout.write(f"{line}\n")
-
-
-if __name__ == "__main__":
-    end_with(main)
