@@ -1,7 +1,5 @@
 """Tries tools/recipes on pages of a few lines: that it takes what is so, tells what is not with the line of the
-comment, and passes over what needs a program that is not installed. It needs no program: a stand-in does nothing. It
-ends with 0, or with 1 where something is wrong.
-"""
+comment, and passes over what needs a program that is not installed. It needs no program: a stand-in does nothing."""
 import os
 import pathlib
 import shutil
@@ -11,7 +9,6 @@ import unittest
 from typing import Tuple
 
 from labtools.common.program import TOP
-
 
 RIGHT = """# A page
 

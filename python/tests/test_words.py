@@ -1,11 +1,6 @@
 """Tries that the scripts of tools/ tell in a line what is wrong with their words and files, or that what they print
-cannot be written, and end with the status that their heads say. The lines were written down by hand beforehand.
-
-    python/tests/test_words.py [NAME ..]
-
-It needs no program: a stand-in does nothing. It prints what is wrong alone, and ends with 0, or with 1 where something
-is.
-"""
+cannot be written, and end with the status that their heads say. The lines were written down by hand beforehand. It needs no program: a stand-in
+does nothing."""
 import os
 import pathlib
 import shutil
@@ -40,7 +35,6 @@ WORDS = (
     ("costs nosuch", 2, "no name has the word nosuch: tools/costs [WORD ..]"),
     ("costs hubs nosuch", 2, "no name has the word nosuch: tools/costs [WORD ..]"),
     ("crates x", 2, "these words are not taken: tools/crates [--chain]"),
-    ("tests/pages_are_freed nosuch", 2, "these words are not taken: python/tests/test_pages_are_freed.py"),
     ("recipes none.md", 2, "none.md: No such file or directory"),
     ("recipes page.md none.md", 2, "none.md: No such file or directory"),
     ("recipes .", 2, ".: Is a directory"),

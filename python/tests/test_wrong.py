@@ -1,10 +1,6 @@
-"""Tries tools/wrong, and that the gate asks for it, in a repository of three crates with a kit of a few lines: it refuses
-each edit that does not say `harmless`, and keeps its calls. The answers were written down by hand beforehand.
-
-    python/tests/test_wrong.py [NAME ..]
-
-It needs no program. It prints what is wrong alone, and ends with 0, or with 1 where something is.
-"""
+"""Tries tools/wrong, and that the gate asks for it, in a repository of three crates with a kit of a few lines: it
+refuses each edit that does not say `harmless`, and keeps its calls. The answers were written down by hand
+beforehand."""
 import os
 import pathlib
 import shutil
@@ -14,7 +10,6 @@ import unittest
 from typing import List
 
 from labtools.common.program import TOP
-
 
 KIT = """#!/usr/bin/env bash
 echo "$* CI=${CI-}" >>"$CALLS"
@@ -38,9 +33,8 @@ class Wrong(unittest.TestCase):
         self.top = pathlib.Path(folder.name).resolve() / "lab"
         self.calls = self.top.with_name("calls")
         self.calls.touch()
-        for folder in "tools", "python":
-            shutil.copytree(TOP / folder, self.top / folder, symlinks=True)
-        shutil.copytree(TOP / ".ci", self.top / ".ci")
+        for name in "tools", "python", ".ci":
+            shutil.copytree(TOP / name, self.top / name, symlinks=True)
         self.write("crates.txt", "low:\nhigh: low\nlab_cli: low high\n")
         self.write("HANDLES", "Handles allowed: none.\n")
         for crate in "low", "high", "lab_cli":
@@ -58,8 +52,16 @@ class Wrong(unittest.TestCase):
     def run_in_it(self, *words: str) -> "subprocess.CompletedProcess[str]":
         path = f"{self.top}/kit:{os.environ['PATH']}"
         environment = {**os.environ, "PATH": path, "CALLS": str(self.calls), "CI": "true"}
-        how = {"stdout": subprocess.PIPE, "stderr": subprocess.STDOUT, "stdin": subprocess.DEVNULL}
-        return subprocess.run(words, cwd=self.top, env=environment, text=True, timeout=60, **how)
+        return subprocess.run(
+            words,
+            cwd=self.top,
+            env=environment,
+            text=True,
+            timeout=60,
+            stdin=subprocess.DEVNULL,
+            stdout=subprocess.PIPE,
+            stderr=subprocess.STDOUT,
+        )
 
     def wants(self, status: int, lines: List[str], *words: str) -> None:
         said = self.run_in_it("tools/wrong", *words)
