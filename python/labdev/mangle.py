@@ -124,8 +124,9 @@ def of_demos() -> Iterator[Laboratory]:
             yield Laboratory(os.path.dirname(script), files, ["run", script])
 
 
-def laboratories(program: str) -> List[Laboratory]:
+def laboratories() -> List[Laboratory]:
     """Returns the laboratories of all cases and demos that run a script, each once, and no large ones."""
+    program = path_of_program()
     found: Dict[Tuple[Any, ...], Laboratory] = {}
     every = [it for path in sorted(glob.glob(f"{TOP}/cases/*.case")) for it in of_case(path, program)]
     for laboratory in [*every, *of_demos()]:
@@ -274,7 +275,7 @@ def main(words: List[str]) -> int:
     count = number_of(words[0], USAGE) if words else None
     seed = words[1] if words[1:] else "1"
     program = path_of_program()
-    chosen = [(it, *damage) for it in laboratories(program) for damage in it.places()]
+    chosen = [(it, *damage) for it in laboratories() for damage in it.places()]
     if count is not None:
         if count > len(chosen):
             end_wrong(f"there are {len(chosen)} such files, and not {count}")

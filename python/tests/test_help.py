@@ -27,8 +27,8 @@ def scripts() -> List[pathlib.Path]:
 def text_of(script: pathlib.Path) -> str:
     """Returns the text of a tool's module, or the first line of a shell script's comment."""
     if not script.is_symlink():
-        return re.findall(r"#!.*\n# (.*)\n", script.read_text("utf-8"))[0]
-    [module] = [it for it in PYTHON.glob(f"lab*/{script.name}.py")]
+        return str(re.findall(r"#!.*\n# (.*)\n", script.read_text("utf-8"))[0])
+    [module] = PYTHON.glob(f"lab*/{script.name}.py")
     return (ast.get_docstring(ast.parse(module.read_text("utf-8")), clean=False) or "").strip()
 
 

@@ -1,6 +1,6 @@
 """Tries that the scripts of tools/ tell in a line what is wrong with their words and files, or that what they print
-cannot be written, and end with the status that their heads say. The lines were written down by hand beforehand. It needs no program: a stand-in
-does nothing."""
+cannot be written, and end with the status that their heads say. The lines were written down by hand beforehand. It
+needs no program: a stand-in does nothing."""
 import os
 import pathlib
 import shutil
@@ -9,7 +9,6 @@ import subprocess
 import sys
 import tempfile
 import unittest
-from typing import Any
 
 from labtools.common.program import TOP
 
@@ -74,6 +73,8 @@ PRINTING = (
     ("suite --help", 2),
 )
 FULL = "[Errno 28] No space left on device"
+# An output that is closed.
+CLOSE = -100
 CLOSED = "[Errno 9] Bad file descriptor"
 # A laboratory without boards, at its beginning, whose quantum is 100 microseconds (docs/SNAPSHOTS.md).
 KEPT = b"LABSNAP1" + bytes(8) + (100).to_bytes(8, "little") + bytes(4 * 8)
@@ -93,31 +94,34 @@ class Words(unittest.TestCase):
         for name in "rt", "valgrind", "lab":
             (self.room / "bin" / name).symlink_to(str(shutil.which("false")))
 
-    def call(self, words: str, lab: str = "/none/lab", buffered: bool = True, **how: Any) -> "subprocess.Popen[str]":
+    def call(self, words: str, lab: str = "/none/lab", buffered: bool = True, output: int = subprocess.PIPE) -> int:
+        """Calls a script, and returns its status. Its output may be closed, by `CLOSE`."""
         script, *rest = words.split()
         path = f"{self.room}/bin:{os.environ['PATH']}"
         env = {**os.environ, "LAB": lab, "PATH": path, "LC_ALL": "C", "PYTHONUNBUFFERED": "" if buffered else "1"}
-        with subprocess.Popen(
+        ran = subprocess.run(
             [sys.executable, str(TOP / "tools" / script), *rest],
             cwd=self.room,
             env=env,
             text=True,
+            timeout=60,
             stdin=subprocess.DEVNULL,
+            stdout=None if output == CLOSE else output,
             stderr=subprocess.PIPE,
-            **{"stdout": subprocess.PIPE, **how},
-        ) as process:
-            self.printed, self.told = process.communicate(timeout=60)
-        return process
+            preexec_fn=(lambda: os.close(1)) if output == CLOSE else None,
+        )
+        self.printed, self.told = ran.stdout or "", ran.stderr
+        return ran.returncode
 
     def test_a_line_says_what_is_wrong(self) -> None:
         for words, status, line in WORDS:
             with self.subTest(words=words):
-                ended = self.call(words).returncode
+                ended = self.call(words)
                 wanted = f"tools/{words.split()[0]}: {line}\n".replace("ROOM", str(self.room))
                 self.assertEqual((ended, self.printed, self.told), (status, "", wanted))
 
     def test_a_comment_without_a_block_is_told_with_its_line(self) -> None:
-        ended = self.call("recipes comment.md", str(self.room / "bin/lab")).returncode
+        ended = self.call("recipes comment.md", str(self.room / "bin/lab"))
         line = f"{os.path.relpath(self.room / 'comment.md', TOP)}:3: no block stands after the comment\n"
         self.assertEqual((ended, self.printed, self.told), (1, line, ""))
 
@@ -125,7 +129,7 @@ class Words(unittest.TestCase):
         for words, status in PRINTING:
             for buffered in True, False:
                 with self.subTest(words=words, buffered=buffered), open("/dev/full", "wb") as full:
-                    ended = self.call(words, buffered=buffered, stdout=full).returncode
+                    ended = self.call(words, buffered=buffered, output=full.fileno())
                     self.assertEqual((ended, self.told), (status, f"tools/{words.split()[0]}: {FULL}\n"))
 
     def test_a_suite_tells_that_its_results_cannot_be_written(self) -> None:
@@ -133,15 +137,15 @@ class Words(unittest.TestCase):
         (self.room / "s.log").write_bytes(b"one\n")
         for buffered in True, False:
             with self.subTest(buffered=buffered), open("/dev/full", "wb") as full:
-                ended = self.call("suite s.resc", lab, buffered, stdout=full).returncode
+                ended = self.call("suite s.resc", lab, buffered, full.fileno())
                 self.assertEqual((ended, self.told), (2, f"suite: {FULL}\n"))
-        ended = self.call("suite s.resc", lab, stdout=None, preexec_fn=lambda: os.close(1)).returncode
+        ended = self.call("suite s.resc", lab, output=CLOSE)
         self.assertEqual((ended, self.told), (2, f"suite: {CLOSED}\n"))
 
     def test_an_output_that_is_closed_is_told(self) -> None:
         for words, status in PRINTING:
             with self.subTest(words=words):
-                ended = self.call(words, stdout=None, preexec_fn=lambda: os.close(1)).returncode
+                ended = self.call(words, output=CLOSE)
                 self.assertEqual((ended, self.told), (status, f"tools/{words.split()[0]}: {CLOSED}\n"))
 
     def test_the_names_of_the_tests_are_printed_as_far_as_someone_reads(self) -> None:
@@ -160,6 +164,6 @@ class Words(unittest.TestCase):
             reader, writer = os.pipe()
             os.close(reader)
             with self.subTest(words=words):
-                ended = self.call(words, stdout=writer).returncode
+                ended = self.call(words, output=writer)
                 self.assertEqual((ended, self.told), (-signal.SIGPIPE, ""))
             os.close(writer)
