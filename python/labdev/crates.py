@@ -26,7 +26,13 @@ def uses_of(text: str) -> Dict[str, List[str]]:
 
 def below(uses: Dict[str, List[str]], crate: str) -> Set[str]:
     """Returns a crate and all that it stands on."""
-    return {crate}.union(*(below(uses, it) for it in uses[crate]))
+    found: Set[str] = set()
+    left = [crate]
+    while left:
+        one = left.pop()
+        left += [] if one in found else uses[one]
+        found.add(one)
+    return found
 
 
 def chains_of(uses: Dict[str, List[str]]) -> Dict[str, List[str]]:
@@ -43,7 +49,8 @@ def chains_of(uses: Dict[str, List[str]]) -> Dict[str, List[str]]:
 
 def layers(uses: Dict[str, List[str]]) -> List[str]:
     """Returns a line a layer, and more where it is long."""
-    chains = {crate: chain for crate, chain in chains_of(uses).items() if crate in below(uses, PROGRAM)}
+    among = below(uses, PROGRAM)
+    chains = {crate: chain for crate, chain in chains_of(uses).items() if crate in among}
     lines = []
     for height in range(len(chains[PROGRAM]), 0, -1):
         crates = " ".join(sorted(crate for crate, chain in chains.items() if len(chain) == height))

@@ -14,7 +14,7 @@ import subprocess
 import tempfile
 from typing import List
 
-from labdev.released import Sums, fault_of, sum_of, sums_kept_with
+from labdev.released import Sums, fault_of, sum_of, sum_of_sources, sums_kept_with
 from labtools.common.program import TOP, end_unless, end_wrong
 
 BUILT = TOP / "crates/lab_cli/out/lab_cli"
@@ -25,11 +25,6 @@ MARK = b"rattle logic="
 
 class Refused(Exception):
     """Why nothing is released, or what differs."""
-
-
-def sum_of_sources() -> str:
-    said = subprocess.run([TOP / "tools/sources"], check=True, stdout=subprocess.PIPE, text=True)
-    return said.stdout.strip()
 
 
 def told(path: pathlib.Path) -> str:
