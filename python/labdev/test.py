@@ -34,7 +34,6 @@ SECONDS = 900
 TOLD_EACH = 10
 # How long each test took the last time: the longest begin first.
 TIMES = TOP / "out/test.times"
-PARTS_OF_CHECK = "expect", "lab", "images", "snapshots", "workers", "passed", "build", "index", "release", "start"
 # Of how many damaged files each of these tests tries some, each from a seed of its own.
 DAMAGED = 4, 100
 
@@ -71,9 +70,7 @@ def tests_of_cases() -> List[Test]:
 
 def tests_of_tools() -> List[Test]:
     """Returns the tests of ./lab and of the scripts of tools/."""
-    tests = []
-    if (TOP / "tools/check").exists():
-        tests += [Test(f"check/{it}", ["tools/check", it], 5.0) for it in PARTS_OF_CHECK]
+    tests: List[Test] = []
     for name, seconds in ("edges", 5.0), ("cuts", 60.0):
         if (TOP / "tools" / name).exists():
             tests.append(Test(f"tools/{name}", [f"tools/{name}"], seconds))
