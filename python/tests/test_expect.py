@@ -39,7 +39,7 @@ class Expect(Packaged):
 
     def test_a_device_and_a_folder_are_no_logs(self) -> None:
         for name in "/dev/zero", "/dev/full", "test":
-            for words in [], ["--bless"]:
+            for words in (), ("--bless",):
                 said = f"expect: {name} is no plain file"
                 self.wants(73, said, "timeout", "20", EXPECT, *words, "test/s.resc", name)
 
@@ -53,7 +53,7 @@ class Expect(Packaged):
     def test_what_lab_could_not_do_is_no_log(self) -> None:
         (self.room / "test/image.bin").unlink()
         self.write("test/empty", "")
-        for words in [], ["--bless"]:
+        for words in (), ("--bless",):
             self.expect(4, "lab ended with 4", *words, "test/s.resc", "test/empty")
         self.assertEqual(self.read("test/empty"), "")
         self.add_unknown_command()
