@@ -3,12 +3,12 @@
     tools/package [FOLDER]    makes them there, or in out/package
 
 They are lab-VERSION-x86_64-linux.tar.gz, lab_VERSION_amd64.deb and
-lab_emulator-VERSION-py3-none-manylinux_2_34_x86_64.whl. All have the program, the tools that its users need, and a file SUMS with the version, the sum of the sources, the sum
-of the program and the logic by which they were proved; the first two also the manual page lab(1), made from
-docs/SCRIPTS.md, completion for bash, the changes from version to version, the documents and the demos. The program is
-bin/lab, or the one that was built here, whichever was built from the present sources; nothing is built. The same files
-give the same bytes. Without dpkg-deb the Debian package is not made, which is told. It ends with 0, with 1 where there
-is no such program, and with 2 where it is called otherwise.
+lab_emulator-VERSION-py3-none-manylinux_2_34_x86_64.whl. All have the program, the tools that its users need, the
+documents, and a file SUMS with the version, the sum of the sources, the sum of the program and the logic by which they
+were proved; the first two also the manual page lab(1), made from docs/SCRIPTS.md, completion for bash, the changes from
+version to version, and the demos. The program is bin/lab, or the one that was built here, whichever was built from the
+present sources; nothing is built. The same files give the same bytes. Without dpkg-deb the Debian package is not made,
+and a line says so. It ends with 0, with 1 where there is no such program, and with 2 where its words are wrong.
 
 The archive is a folder as the repository is: ./lab, tools/, docs/ and demo/ stand in it. The Debian package puts that
 folder to /usr/lib/lab, its commands to /usr/bin as lab, lab-expect and so on, and documents and demos to

@@ -125,8 +125,7 @@ def try_block(kind: str, words: str, block: str, room: str) -> Optional[str]:
 
 
 def furnish(room: str, program: str) -> None:
-    """Puts `lab`, `tools` and `demo` into a room, as a package has them, and a Python, with pyelftools if one has
-    them."""
+    """Puts `lab`, `tools` and `demo` into a room, as a package has them, and a Python, with pyelftools if possible."""
     os.mkdir(f"{room}/.python")
     os.symlink(with_pyelftools() or sys.executable, f"{room}/.python/python3")
     os.mkdir(f"{room}/bin")

@@ -9,7 +9,7 @@ import time
 import zipfile
 from typing import Iterator, List, Tuple
 
-from labdev.packed import DATE, Entry, Tree, file_of, files_below
+from labdev.packed import DATE, Entry, Tree, files_below
 from labtools.common.program import TOP, names_of_tools
 
 
@@ -66,9 +66,9 @@ def record(tree: Tree, own: str) -> Iterator[str]:
 
 
 def wheel_tree(version: str, share: Tree) -> Tree:
-    """Returns the files of the wheel, with these in its folder `share`, and there a file for each tool, which ./lab
-    starts by the Python that LAB_PYTHON names."""
-    launcher = file_of(TOP / "python/launch.py")
+    """Returns the files of the wheel, with these in its folder `share`, and there a file for each tool. No file there
+    but ./lab is to be called, which starts these by the Python that LAB_PYTHON names."""
+    launcher = Entry((TOP / "python/launch.py").read_bytes())
     about = f"lab_emulator-{version}.dist-info"
     tree = {
         **{name.partition("/")[2]: entry for name, entry in files_below("python/labtools").items()},

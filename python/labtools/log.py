@@ -9,15 +9,16 @@ LOG is a file, or `-` for the standard input: `./lab run s.resc | tools/log --ht
 where a file or its output cannot be read or written, and with 2 where its words are wrong.
 """
 import argparse
-import io
+import errno
 import itertools
 import json
+import os
 import pathlib
 import re
 import subprocess
 import sys
 import tempfile
-from typing import Dict, Iterator, List, Optional, Tuple
+from typing import Dict, Iterator, List, Optional, Tuple, Union
 
 from labtools.common.program import parser_of
 from labtools.logs import log_lines
@@ -25,12 +26,11 @@ from labtools.logs.log_lines import Line, Log
 
 
 def read(name: str, is_folded: bool) -> Log:
-    if name == "-":
-        name, source = "standard input", sys.stdin.buffer
-    else:
-        source = open(name, "rb")
-    with io.TextIOWrapper(source, encoding="ascii", errors="backslashreplace") as file:
-        return log_lines.read(name, file, is_folded)
+    if name == "-" and sys.stdin is None:
+        raise OSError(errno.EBADF, os.strerror(errno.EBADF), "standard input")
+    source: Union[int, str] = sys.stdin.fileno() if name == "-" else name
+    with open(source, encoding="ascii", errors="backslashreplace") as file:
+        return log_lines.read("standard input" if name == "-" else name, file, is_folded)
 
 
 # ---- a file a device

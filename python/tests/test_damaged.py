@@ -177,7 +177,7 @@ def stand_in(stage: str, fault: Exception) -> Dict[str, types.ModuleType]:
     dwarf = types.SimpleNamespace(
         has_CFI=lambda: False, has_EH_CFI=lambda: False, has_debug_info=True, iter_CUs=lambda: iter(())
     )
-    calls = {
+    calls: Dict[str, Callable[..., Any]] = {
         "ELFFile": lambda _: types.SimpleNamespace(**calls),
         "iter_segments": lambda: iter(()),
         "iter_sections": lambda: iter(()),

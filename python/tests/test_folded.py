@@ -1,10 +1,6 @@
 """Tries that equal accesses that repeat are shown as one line: in what tools/expect and tools/suite say of a
 difference, and on the page of tools/log, which keeps none but the first. The lines were written down by hand before.
-
-    python/tests/test_folded.py [NAME ..]
-
-It needs no program: a stand-in prints a file. It prints what is wrong alone, and ends with 0, or with 1 where something
-is.
+It needs no program: a stand-in prints a file.
 """
 import os
 import pathlib
@@ -127,9 +123,11 @@ class Tools(unittest.TestCase):
         (self.room / "s.resc").touch()
 
     def call(self, *words: str) -> Tuple[int, str]:
-        how = {"stdin": subprocess.DEVNULL, "stdout": subprocess.PIPE, "stderr": subprocess.STDOUT, "text": True}
-        env = {**os.environ, "LAB": str(self.room / "lab")}
-        ran = subprocess.run([str(TOP / "tools" / words[0]), *words[1:]], cwd=self.room, env=env, timeout=300, **how)
+        command, env = [str(TOP / "tools" / words[0]), *words[1:]], {**os.environ, "LAB": str(self.room / "lab")}
+        pipe, null = subprocess.PIPE, subprocess.DEVNULL
+        ran = subprocess.run(
+            command, cwd=self.room, env=env, timeout=300, stdin=null, stdout=pipe, stderr=subprocess.STDOUT, text=True
+        )
         return ran.returncode, ran.stdout
 
     def test_a_flood_is_one_line_of_a_difference(self) -> None:
@@ -159,7 +157,7 @@ class Tools(unittest.TestCase):
         _, status, usage = os.wait4(process.pid, 0)
         process.returncode = status
         self.assertEqual(status, 0)
-        return usage.ru_maxrss
+        return int(usage.ru_maxrss)
 
     def test_a_page_of_a_flood_takes_no_more_memory_than_a_short_one(self) -> None:
         self.assertLess(self.most_memory(300_000) - self.most_memory(2), 8_000)

@@ -1,5 +1,5 @@
 """Tries functions of labtools and labdev at their limits: which variants and flags a snapshot may have, how paths and
-names of an ELF file are shown, when a processor is said to be in a trap loop, and what the files and runs of a case are.
+names of an ELF file are shown, when a processor is said to be in a trap loop, and what the files of a case are.
 """
 import os
 import tempfile
@@ -12,6 +12,7 @@ from labtools.boards import machine
 from labtools.boards import snapshot
 from labtools.boards import stacks
 from labtools.boards import traps
+from labtools.common.program import TOP
 from labtools.elf import elf
 from labtools.elf import unwind
 
@@ -21,7 +22,7 @@ HANDLER = 0x80000100
 
 class Snapshots(unittest.TestCase):
     def test_a_variant_is_one_of_its_cases(self) -> None:
-        cases = ("none", []), ("there", [])
+        cases: List[Tuple[str, snapshot.Fields]] = [("none", []), ("there", [])]
         for byte, name in ((0, "none"), (1, "there")):
             self.assertEqual(snapshot.Reader(bytes([byte])).variant(*cases)("it"), (name, {}))
         for byte in 2, 255:
@@ -128,19 +129,52 @@ class Images(unittest.TestCase):
             os.chdir(before)
 
 
+class Forms(unittest.TestCase):
+    """The places of fields are those of the ELF manual: of the header, of a segment and of the header of a section."""
+
+    def fault_with(self, at: int, value: int, width: int) -> str:
+        """What is wrong first with ask.elf where a field is another one."""
+        data = bytearray(self.data)
+        data[at : at + width] = value.to_bytes(width, "little")
+        return next(elf.faults_of(bytes(data)), "")
+
+    def test_each_fault_of_a_table_is_told(self) -> None:
+        self.data = (TOP / "python/tests/data/where/ask.elf").read_bytes()
+        fields = (28, 32), (32, 36), (48, 50)
+        segment, first, count = (int.from_bytes(self.data[at:end], "little") for at, end in fields)
+        places = [first + 40 * number for number in range(count)]
+        (symbols,) = (number for number, at in enumerate(places) if self.data[at + 4] == 2)
+        for at, value, width, wanted in (
+            (36, 0, 4, ""),
+            (42, 31, 2, "the headers of its segments have 31 bytes, and not 32"),
+            (46, 41, 2, "the headers of its sections have 41 bytes, and not 40"),
+            (28, len(self.data) - 31, 4, "the headers of its segments end behind its end"),
+            (48, count + 1, 2, "the headers of its sections end behind its end"),
+            (segment + 16, len(self.data), 4, "segment 0 ends behind its end"),
+            (places[1] + 16, len(self.data), 4, "section 1 ends behind its end"),
+            (50, 0, 2, "the names of its sections are nowhere"),
+            (50, count, 2, "the names of its sections are nowhere"),
+            (places[symbols] + 24, count, 4, "the names of its symbols are nowhere"),
+            (places[symbols] + 36, 17, 4, f"section {symbols} has symbols of 17 bytes, and not 16"),
+        ):
+            with self.subTest(at=at, value=value):
+                self.assertEqual(self.fault_with(at, value, width), wanted)
+
+
 class Tables(unittest.TestCase):
     """Rows of a table of frames, as pyelftools give them: register 2 is sp, 1 is ra, and 32 a floating-point one."""
 
     def test_only_sums_of_a_register_and_offsets_of_registers_are_taken(self) -> None:
         saved = types.SimpleNamespace(type="OFFSET", arg=-4)
         other = types.SimpleNamespace(type="EXPRESSION", arg=[0x70])
-        for base, rules, wanted in (
+        rows: List[Tuple[Tuple[Any, Any, Any], Dict[Any, Any], elf.Row]] = [
             ((2, 0, None), {}, elf.Row(0x80000000, (2, 0), {})),
             ((2, 16, None), {1: saved, 8: other}, elf.Row(0x80000000, (2, 16), {1: -4})),
             ((32, 16, None), {1: saved, 33: saved}, elf.Row(0x80000000, None, {1: -4})),
             ((None, None, [0x72]), {}, elf.Row(0x80000000, None, {})),
-        ):
-            cfa = types.SimpleNamespace(reg=base[0], offset=base[1], expr=base[2])
+        ]
+        for (register, offset, expression), rules, wanted in rows:
+            cfa = types.SimpleNamespace(reg=register, offset=offset, expr=expression)
             self.assertEqual(elf.row_of({"pc": 0x80000000, "cfa": cfa, **rules}), wanted)
 
 

@@ -1,9 +1,5 @@
-"""Tries tools/log. Prints what is wrong and nothing else.
-
-    python/tests/test_log.py
-
-What is wanted was worked out from docs/SCRIPTS.md ("The log") and from the forms of candump and of the Trace Event
-Format. The page is opened in chromium; where there is none, that is passed over and said.
+"""Tries tools/log. What is wanted was worked out from docs/SCRIPTS.md ("The log") and from the forms of candump and of
+the Trace Event Format. The page is opened in chromium; where there is none, that is passed over.
 """
 import html
 import json
@@ -14,7 +10,7 @@ import shutil
 import subprocess
 import tempfile
 import unittest
-from typing import Dict, Iterator, List, Tuple
+from typing import Any, Dict, Iterator, List, Tuple
 
 from labtools.common.program import TOP
 from labtools.logs import log_lines
@@ -206,6 +202,14 @@ class Written(InFolder):
         self.run_tool("--html", "a.html", "-", "-", status=2)
         self.run_tool("--candump", "a.log", "a.log", status=2)
         self.run_tool("--candump", "none", status=1)
+        for given, line in (
+            ("-", "[Errno 9] Bad file descriptor: 'standard input'"),
+            (".", "[Errno 21] Is a directory: '.'"),
+        ):
+            closed = subprocess.run(
+                ["sh", "-c", '"$0" --candump "$1" <&-', TOOL, given], cwd=self.folder, capture_output=True
+            )
+            self.assertEqual((closed.returncode, closed.stderr.decode()), (1, f"tools/log: {line}\n"))
         self.run_tool("--html", "none/a.html", "a.log", status=1)
         self.assertIn("tools/log --split FOLDER", self.run_tool("--help"))
 
@@ -213,12 +217,12 @@ class Written(InFolder):
 class Page(InFolder):
     """The page, and what a browser makes of it."""
 
-    def data(self, *logs: str) -> Dict[str, list]:
+    def data(self, *logs: str) -> Dict[str, List[Any]]:
         self.run_tool("--html", "a.html", *logs)
         text = (self.folder / "a.html").read_text()
         found = re.search(r'<script id="data" type="application/json">(.*?)</script>', text)
         assert found
-        held: Dict[str, list] = json.loads(found[1])
+        held: Dict[str, List[Any]] = json.loads(found[1])
         return held
 
     def test_data(self) -> None:

@@ -1,7 +1,10 @@
-"""Tries the packages that tools/package makes: unpacked into an empty folder, where another user runs the demos with
-nothing of the repository on the path; the manual pages; the completion; what Debian's lintian says. It ends with 0, or
-with 1 where something is wrong.
+"""Tries the packages that tools/package makes: each is unpacked or installed in an empty folder, where another user
+runs demos and tools with nothing of the repository on the path; the manual pages; the completion; what lintian says.
 """
+import base64
+import concurrent.futures
+import csv
+import functools
 import gzip
 import hashlib
 import os
@@ -14,15 +17,18 @@ import tarfile
 import tempfile
 import unittest
 import unittest.mock
-from typing import List, Tuple
+import zipfile
+from typing import Callable, Dict, List, NamedTuple, Optional, Tuple
 
 from labdev import package
+from labdev import wheel
 from labtools.common.manual import manual_page, page_of_script
-from labtools.common.program import TOP, path_of_program
+from labtools.common.program import TOP, names_of_tools, path_of_program
 
 
 SOURCES = "5" * 64
-NOBODY = ["setpriv", "--reuid=65534", "--regid=65534", "--clear-groups", "--no-new-privs"]
+KINDS = "archive", "Debian", "wheel"
+NOBODY = ["setpriv", "--reuid=65534", "--regid=65534", "--clear-groups", "--no-new-privs", "env"]
 # A document with the two tables of docs/SCRIPTS.md, and the page that is made of it.
 DOCUMENT = """# Scripts
 
@@ -110,11 +116,43 @@ it was interrupted, and nothing is made
 """
 
 
-def as_another(words: List[str], folder: pathlib.Path) -> "subprocess.CompletedProcess[bytes]":
-    """Runs a command as another user, where this one is root, with no environment but the system's path."""
+class Place(NamedTuple):
+    """Where a package is unpacked or installed: the folder in which its documents and demos stand or were put, its
+    commands, and its files."""
+
+    folder: pathlib.Path
+    lab: pathlib.Path
+    tools: str
+    files: pathlib.Path
+
+    def tool(self, name: str) -> str:
+        return f"{self.tools}{name}"
+
+
+def as_another(words: List[str], folder: pathlib.Path) -> "subprocess.CompletedProcess[str]":
+    """Runs a command as another user, where this one is root, with no environment but the system's path. What setpriv
+    starts itself may still read all that root may."""
     before = NOBODY if os.geteuid() == 0 and shutil.which("setpriv") else []
-    how = {"stdin": subprocess.DEVNULL, "stdout": subprocess.PIPE, "stderr": subprocess.STDOUT, "timeout": 120}
-    return subprocess.run([*before, *words], cwd=folder, env={"PATH": "/usr/bin:/bin", "HOME": "/"}, **how)
+    return subprocess.run(
+        [*before, *words],
+        cwd=folder,
+        env={"PATH": "/usr/bin:/bin", "HOME": "/"},
+        stdin=subprocess.DEVNULL,
+        stdout=subprocess.PIPE,
+        stderr=subprocess.STDOUT,
+        encoding="utf-8",
+        timeout=300,
+        check=False,
+    )
+
+
+@functools.lru_cache(maxsize=None)
+def python_for_all() -> Optional[str]:
+    """Returns a Python that other users may run, with what makes environments and installs packages."""
+    found = [sys.executable, *(os.path.join(folder, "python3") for folder in os.get_exec_path())]
+    there = [it for it in dict.fromkeys(found) if os.access(it, os.X_OK)]
+    runs = (it for it in there if as_another([it, "-c", "import venv, pip"], pathlib.Path("/")).returncode == 0)
+    return next(runs, None)
 
 
 def changed(program: pathlib.Path) -> None:
@@ -126,188 +164,259 @@ def changed(program: pathlib.Path) -> None:
 
 
 class Packages(unittest.TestCase):
+    program: bytes
+    room: pathlib.Path
+    made: Dict[str, pathlib.Path]
+    places: Dict[str, Place]
+
     @classmethod
     def setUpClass(cls) -> None:
         cls.program = pathlib.Path(path_of_program()).read_bytes()
-        cls.made_in = tempfile.mkdtemp(prefix="lab-packages-")
-        cls.made = package.pack(pathlib.Path(cls.made_in), cls.program, SOURCES)
+        cls.room = pathlib.Path(tempfile.mkdtemp(prefix="lab-packages-"))
+        cls.room.chmod(0o755)
+        cls.made = package.pack(cls.room / "made", cls.program, SOURCES)
+        cls.places = {}
 
     @classmethod
     def tearDownClass(cls) -> None:
-        shutil.rmtree(cls.made_in)
+        shutil.rmtree(cls.room)
 
-    def setUp(self) -> None:
-        self.room = pathlib.Path(tempfile.mkdtemp(prefix="lab-unpacked-"))
-        self.addCleanup(shutil.rmtree, self.room)
-        self.room.chmod(0o755)
+    def place(self, kind: str) -> Place:
+        """Returns where a package is, which is unpacked once."""
+        if kind not in self.places:
+            unpack: Dict[str, Callable[[pathlib.Path], Place]] = {
+                "archive": self.unpacked_archive,
+                "Debian": self.unpacked_debian,
+                "wheel": self.installed_wheel,
+            }
+            root = self.room / kind
+            root.mkdir(exist_ok=True)
+            self.places[kind] = unpack[kind](root)
+        return self.places[kind]
 
-    def unpacked_archive(self) -> pathlib.Path:
-        with tarfile.open(self.made[0]) as archive:
-            archive.extractall(self.room / "empty")
-        folders = list((self.room / "empty").iterdir())
-        self.assertEqual([it.name for it in folders], [f"lab-{package.version()}-x86_64-linux"])
-        return folders[0]
+    def unpacked_archive(self, root: pathlib.Path) -> Place:
+        with tarfile.open(self.made["archive"]) as archive:
+            archive.extractall(root)
+        (folder,) = root.iterdir()
+        self.assertEqual(folder.name, f"lab-{package.version()}-x86_64-linux")
+        return Place(folder, folder / "lab", f"{folder}/tools/", folder)
 
-    def unpacked_debian(self) -> pathlib.Path:
-        if len(self.made) == 1:
-            print("passed over: the Debian package, without dpkg-deb", file=sys.__stdout__)
-            self.skipTest("no dpkg-deb")
-        self.assertEqual(self.made[1].name, f"lab_{package.version()}_amd64.deb")
-        subprocess.run(["dpkg-deb", "-x", self.made[1], self.room / "root"], check=True)
-        return self.room / "root"
+    def unpacked_debian(self, root: pathlib.Path) -> Place:
+        if "Debian" not in self.made:
+            self.skipTest("the Debian package, without dpkg-deb")
+        self.assertEqual(self.made["Debian"].name, f"lab_{package.version()}_amd64.deb")
+        subprocess.run(["dpkg-deb", "-x", self.made["Debian"], root], check=True)
+        return Place(root / "usr/share/doc/lab", root / "usr/bin/lab", f"{root}/usr/bin/lab-", root / "usr/lib/lab")
 
-    def assert_demos_run(self, folder: pathlib.Path, lab: pathlib.Path, expect: pathlib.Path) -> None:
-        """Each demo prints its log, by the program alone, and by the script that compares logs."""
+    def installed_wheel(self, root: pathlib.Path) -> Place:
+        python = python_for_all()
+        if python is None:
+            self.skipTest("the wheel, without a Python that has pip and venv")
+        subprocess.run([python, "-m", "venv", "--without-pip", root / "venv"], check=True)
+        words = ["--python", str(root / "venv/bin/python"), "install", "--no-index", "--disable-pip-version-check"]
+        subprocess.run([python, "-m", "pip", *words, "--quiet", self.made["wheel"]], check=True, cwd=root)
+        shutil.copytree(TOP / "demo", root / "demo")
+        (share,) = root.glob("venv/lib/python3*/site-packages/labtools/share")
+        return Place(root, root / "venv/bin/lab", f"{root}/venv/bin/lab-", share)
+
+    def test_each_runs_the_demos(self) -> None:
+        """By the program alone, and by the tool that compares logs."""
         demos = sorted(it.parent.name for it in TOP.glob("demo/*/s.resc"))
         self.assertGreater(len(demos), 10)
-        for name in demos:
-            with self.subTest(demo=name):
-                ran = as_another([str(lab), "run", f"demo/{name}/s.resc"], folder)
-                self.assertEqual(ran.stdout, (TOP / f"demo/{name}/output").read_bytes())
-                self.assertEqual(ran.returncode, 0)
-        compared = as_another([str(expect), "demo/hub/s.resc", "demo/hub/output"], folder)
-        self.assertEqual((compared.returncode, compared.stdout), (0, b""))
+        for kind in KINDS:
+            with self.subTest(kind=kind):
+                place = self.place(kind)
+                words = [[str(place.lab), "run", f"demo/{name}/s.resc"] for name in demos]
+                with concurrent.futures.ThreadPoolExecutor(4) as pool:
+                    runs = list(pool.map(lambda it: as_another(it, place.folder), words))
+                for name, ran in zip(demos, runs):
+                    self.assertEqual(ran.stdout, (TOP / f"demo/{name}/output").read_text(encoding="utf-8"), name)
+                    self.assertEqual(ran.returncode, 0, name)
+                compared = as_another([place.tool("expect"), "demo/hub/s.resc", "demo/hub/output"], place.folder)
+                self.assertEqual((compared.returncode, compared.stdout), (0, ""))
 
-    def test_the_archive_runs_where_it_is_unpacked(self) -> None:
-        folder = self.unpacked_archive()
-        self.assert_demos_run(folder, folder / "lab", folder / "tools/expect")
+    def test_the_tools_of_each_run_its_program_and_read_its_documents(self) -> None:
+        for kind in KINDS:
+            with self.subTest(kind=kind):
+                place = self.place(kind)
+                for tool, script, line in (
+                    ("where", "hub/s", "at 0.000800\n"),
+                    ("suite", "suite/sum", "passed "),
+                    ("reads", "hub/s", "there    script   demo/hub/s.resc\n"),
+                ):
+                    ran = as_another([place.tool(tool), f"demo/{script}.resc"], place.folder)
+                    self.assertEqual(ran.returncode, 0, ran.stdout)
+                    self.assertEqual(ran.stdout[: len(line)], line, ran.stdout)
+                refused = self.room / "refused.resc"
+                refused.write_text("foo\n", encoding="utf-8")
+                ran = as_another([str(place.lab), "run", str(refused)], place.folder)
+                self.assertEqual(ran.returncode, 3, ran.stdout)
+                self.assertIn(f"\nlab:   {refused}:1: foo\nlab: docs/SCRIPTS.md: the first words are no c", ran.stdout)
 
-    def test_the_tools_of_the_archive_run_its_program(self) -> None:
-        folder = self.unpacked_archive()
-        for tool, script, line in ("where", "hub/s", b"at 0.000800"), ("suite", "suite/sum", b"passed"):
-            ran = as_another([f"tools/{tool}", f"demo/{script}.resc"], folder)
-            self.assertEqual(ran.returncode, 0, ran.stdout)
-            self.assertTrue(ran.stdout.startswith(line), ran.stdout)
+    def test_each_says_what_it_is(self) -> None:
+        logic = package.LOGIC.search(self.program)
+        assert logic
+        for kind in KINDS:
+            with self.subTest(kind=kind):
+                place = self.place(kind)
+                said = as_another([str(place.lab), "--version"], place.folder).stdout
+                lines = f"lab {package.version()}\nsources {SOURCES}\nlogic {logic[1].decode()}\n"
+                self.assertEqual(said, lines)
+                total = subprocess.check_output(["sha256sum", place.files / "bin/lab"], text=True).split()[0]
+                sums = f"version {package.version()}\nsources {SOURCES}\nprogram {total}\nlogic {logic[1].decode()}\n"
+                self.assertEqual((place.files / "SUMS").read_text(encoding="ascii"), sums)
 
-    def test_the_archive_is_complete_and_names_no_repository(self) -> None:
-        folder = self.unpacked_archive()
-        for name in "README.md", "docs/SCRIPTS.md", "man/lab.1", "completion.bash", "tools/snapshot", "bin/lab.sources":
-            self.assertTrue((folder / name).is_file(), name)
-        for name in "tools/build", "tools/release", "crates", "crates.txt", "tools/sources":
-            self.assertFalse((folder / name).exists(), name)
-        for path in folder.rglob("*"):
-            if path.is_file():
-                self.assertNotIn(os.fsencode(f"{TOP}/"), path.read_bytes(), path)
+    def test_each_has_what_users_need_and_nothing_else(self) -> None:
+        have = "lab", "bin/lab", "bin/lab.sources", "VERSION", "docs/SCRIPTS.md", "tools/snapshot"
+        lack = (
+            "crates",
+            "crates.txt",
+            *(f"tools/{name}" for name in ("build", "check", "release", "sources", "package")),
+        )
+        for kind in KINDS:
+            with self.subTest(kind=kind):
+                files = self.place(kind).files
+                for name in have:
+                    self.assertTrue((files / name).is_file(), name)
+                for name in lack:
+                    self.assertFalse((files / name).exists(), name)
+                self.assertEqual(sorted(it.name for it in (files / "tools").iterdir()), names_of_tools())
+        for name in "README.md", "man/lab.1", "completion.bash", "CHANGELOG":
+            self.assertTrue((self.place("archive").files / name).is_file(), name)
 
-    def test_the_archive_says_what_it_is(self) -> None:
-        folder = self.unpacked_archive()
-        said = as_another(["./lab", "--version"], folder).stdout.decode().splitlines()
-        self.assertEqual(said[:2], [f"lab {package.version()}", f"sources {SOURCES}"])
-        sums = dict(line.split(" ", 1) for line in (folder / "SUMS").read_text().splitlines())
-        sha = subprocess.run(["sha256sum", folder / "bin/lab"], check=True, stdout=subprocess.PIPE, text=True).stdout
-        self.assertEqual((sums["version"], sums["sources"]), (package.version(), SOURCES))
-        self.assertEqual(sums["program"], sha.split()[0])
+    def test_none_names_the_repository_or_has_its_tests(self) -> None:
+        for kind in KINDS:
+            with self.subTest(kind=kind):
+                self.place(kind)
+                for path in (self.room / kind).rglob("*"):
+                    self.assertFalse("labdev" in path.parts or re.fullmatch(r"test_.*\.py", path.name), path)
+                    if path.is_file() and not path.is_symlink():
+                        self.assertNotIn(os.fsencode(f"{TOP}/"), path.read_bytes(), path)
 
     def test_the_same_files_give_the_same_bytes(self) -> None:
-        again = package.pack(self.room, self.program, SOURCES)
-        self.assertEqual([it.read_bytes() for it in again], [it.read_bytes() for it in self.made])
+        again = package.pack(self.room / "again", self.program, SOURCES)
+        for kind, path in again.items():
+            with self.subTest(kind=kind):
+                self.assertEqual(path.read_bytes(), self.made[kind].read_bytes())
+
+    def test_each_command_answers_by_its_name(self) -> None:
+        """That of the Debian package or the wheel."""
+        for kind in "Debian", "wheel":
+            with self.subTest(kind=kind):
+                place = self.place(kind)
+                for name in names_of_tools():
+                    said = as_another([place.tool(name), "--help"], self.room).stdout
+                    self.assertIn(f"  lab-{name} ", said)
+                    self.assertNotRegex(said, r"tools/|\./lab")
+                for name, word in ("log", "none"), ("where", "none"), ("suite", "--none"), ("expect", "none"):
+                    told = as_another([place.tool(name), word], self.room).stdout
+                    self.assertRegex(told, rf"(?m)^ *(usage: )?lab-{name}\b")
+                    self.assertNotIn("tools/", told)
+
+    # ---- the Debian package
 
     def test_the_debian_package_runs_from_its_folders(self) -> None:
-        root = self.unpacked_debian()
-        self.assert_demos_run(root / "usr/share/doc/lab", root / "usr/bin/lab", root / "usr/bin/lab-expect")
-        for folder in "usr/share/doc/lab", "usr/lib/lab":
-            ran = as_another(["./lab", "run", "demo/hub/s.resc"], root / folder)
-            self.assertEqual(ran.stdout, (TOP / "demo/hub/output").read_bytes())
+        place = self.place("Debian")
+        for folder in place.folder, place.files:
+            ran = as_another(["./lab", "run", "demo/hub/s.resc"], folder)
+            self.assertEqual(ran.stdout, (TOP / "demo/hub/output").read_text(encoding="utf-8"))
 
     def test_the_debian_package_says_what_it_is(self) -> None:
-        root = self.unpacked_debian()
-        said = subprocess.run(["dpkg-deb", "-f", self.made[1]], check=True, stdout=subprocess.PIPE, text=True).stdout
+        self.place("Debian")
+        said = subprocess.run(["dpkg-deb", "-f", self.made["Debian"]], check=True, stdout=subprocess.PIPE, text=True)
         for line in "Package: lab", f"Version: {package.version()}", "Architecture: amd64":
-            self.assertIn(f"{line}\n", said)
-        held = gzip.decompress((root / "usr/share/man/man1/lab.1.gz").read_bytes())
-        self.assertEqual(held, package.manual(is_installed=True))
-
-    def test_each_command_of_the_debian_package_answers_by_its_name(self) -> None:
-        root = self.unpacked_debian()
-        for command in self.commands(root):
-            with self.subTest(command=command):
-                said = as_another([str(root / "usr/bin" / command), "--help"], self.room).stdout.decode()
-                self.assertIn(f"  {command} ", said)
-                self.assertNotRegex(said, r"tools/|\./lab")
-        for command, words in ("lab-log", ["none"]), ("lab-where", ["none"]), ("lab-suite", []), ("lab-expect", []):
-            with self.subTest(command=command):
-                told = as_another([str(root / "usr/bin" / command), *words], self.room).stdout.decode()
-                self.assertRegex(told, rf"(?m)^ *(usage: )?{command}\b")
-                self.assertNotIn("tools/", told)
+            self.assertIn(f"{line}\n", said.stdout)
+        self.assertIn("\nRecommends: python3 (>= 3.8), python3-pyelftools\n", said.stdout)
 
     def test_each_command_of_the_debian_package_has_a_page_and_completion(self) -> None:
-        root = self.unpacked_debian()
-        listed = gzip.decompress((root / "usr/share/man/man1/lab.1.gz").read_bytes()).decode().replace("\\-", "-")
-        for command in self.commands(root):
+        self.place("Debian")
+        system = self.room / "Debian/usr"
+        commands = sorted(it.name for it in (system / "bin").iterdir())
+        self.assertEqual(commands, ["lab", *(f"lab-{name}" for name in names_of_tools())])
+        pages = {name: gzip.decompress((system / f"share/man/man1/{name}.1.gz").read_bytes()) for name in commands}
+        self.assertEqual(pages["lab"], package.manual(is_installed=True))
+        for command in commands:
             with self.subTest(command=command):
-                packed = (root / f"usr/share/man/man1/{command}.1.gz").read_bytes()
-                page = gzip.decompress(packed).decode().replace("\\-", "-")
+                page = pages[command].decode().replace("\\-", "-")
                 self.assertIn(f".SH NAME\n{command} - ", page)
                 self.assertIn(f".SH SYNOPSIS\n.B {command} ", page)
-                self.assertTrue((root / "usr/share/bash-completion/completions" / command).is_file())
-                self.assertTrue(command == "lab" or f"{command}(1)" in listed)
+                self.assertTrue((system / "share/bash-completion/completions" / command).is_file())
+                self.assertTrue(command == "lab" or f"{command}(1)" in pages["lab"].decode().replace("\\-", "-"))
 
-    def commands(self, root: pathlib.Path) -> List[str]:
-        found = sorted(it.name for it in (root / "usr/bin").iterdir())
-        self.assertLess({"lab", "lab-expect", "lab-log", "lab-suite", "lab-where"}, set(found))
-        return found
-
-    def test_the_texts_of_the_debian_package_name_commands_as_they_are_called_there(self) -> None:
-        root = self.unpacked_debian()
-        names = "|".join(it[4:] for it in self.commands(root) if it != "lab")
-        texts = list((root / "usr/share/doc/lab").rglob("*.md"))
-        self.assertGreater(len(texts), 30)
-        for path in texts:
-            with self.subTest(path=path.name):
-                self.assertNotRegex(path.read_text(), rf"(?m)(^|[\s`(])(tools/({names})\b|\./lab\b)")
-        self.assertIn("`lab-where SCRIPT`", (root / "usr/share/doc/lab/docs/TROUBLESHOOTING.md").read_text())
+    def test_the_texts_that_are_installed_name_commands_as_they_are_called_there(self) -> None:
+        for kind in "Debian", "wheel":
+            with self.subTest(kind=kind):
+                docs = self.place(kind).files / "docs"
+                texts = list(docs.rglob("*.md"))
+                self.assertGreater(len(texts), 15)
+                for path in texts:
+                    named = rf"(?m)(^|[\s`(])(tools/({'|'.join(names_of_tools())})\b|\./lab\b)"
+                    self.assertNotRegex(path.read_text(encoding="utf-8"), named, path.name)
+                self.assertIn("`lab-where SCRIPT`", (docs / "TROUBLESHOOTING.md").read_text(encoding="utf-8"))
 
     def test_the_changes_begin_with_the_version_that_is_packed(self) -> None:
-        packed = (self.unpacked_debian() / "usr/share/doc/lab/changelog.gz").read_bytes()
         first = f"lab ({package.version()}) "
+        self.assertTrue((self.place("archive").files / "CHANGELOG").read_text(encoding="utf-8").startswith(first))
+        packed = (self.place("Debian").folder / "changelog.gz").read_bytes()
         self.assertTrue(gzip.decompress(packed).decode().startswith(first))
-        self.assertTrue((self.unpacked_archive() / "CHANGELOG").read_text().startswith(first))
 
     def test_lintian_finds_nothing_but_what_is_told_with_its_reason(self) -> None:
-        told = (TOP / "packaging/lintian-overrides").read_text().splitlines()
+        told = (TOP / "packaging/lintian-overrides").read_text(encoding="utf-8").splitlines()
         self.assertTrue(told[0].startswith("# "))
-        if len(self.made) == 1 or not shutil.which("lintian"):
-            print("passed over: what lintian says of the Debian package, without lintian", file=sys.__stdout__)
-            return
-        words = ["lintian", "--allow-root", "--fail-on", "error,warning", str(self.made[1])]
+        if "Debian" not in self.made or not shutil.which("lintian"):
+            self.skipTest("what lintian says of the Debian package, without lintian")
+        words = ["lintian", "--allow-root", "--fail-on", "error,warning", str(self.made["Debian"])]
         ran = subprocess.run(words, stdout=subprocess.PIPE, stderr=subprocess.STDOUT, text=True, timeout=300)
         self.assertEqual((ran.returncode, re.findall("(?m)^[EWN]: .*", ran.stdout)), (0, []))
 
-    def test_a_damaged_program_of_the_archive_is_told(self) -> None:
-        folder = self.unpacked_archive()
-        changed(folder / "bin/lab")
-        said = as_another(["./lab", "--version"], folder)
-        self.assertEqual(said.returncode, 70)
-        self.assertIn(b"/bin/lab is damaged: its sum is ", said.stdout)
-        self.assertNotIn(SOURCES.encode(), said.stdout)
+    # ---- the wheel
 
-    def test_a_damaged_program_is_not_packed(self) -> None:
-        sources = subprocess.run([TOP / "tools/sources"], check=True, stdout=subprocess.PIPE, text=True).stdout
+    def test_the_record_has_the_sum_of_each_file_of_the_wheel(self) -> None:
+        with zipfile.ZipFile(self.made["wheel"]) as packed:
+            held = {name: packed.read(name) for name in packed.namelist()}
+        (record,) = (name for name in held if name.endswith(".dist-info/RECORD"))
+        rows = {row[0]: row[1:] for row in csv.reader(held[record].decode().splitlines())}
+        self.assertEqual(rows.pop(record), ["", ""])
+        self.assertEqual({*rows, record}, set(held))
+        for name, (total, size) in rows.items():
+            # 32 bytes are 43 signs and one `=`, which a record lacks
+            wanted = base64.urlsafe_b64decode(f"{total[len('sha256='):]}=")
+            self.assertEqual((hashlib.sha256(held[name]).digest(), len(held[name])), (wanted, int(size)), name)
+
+    def test_pyproject_has_a_command_for_each_tool(self) -> None:
+        commands = dict(wheel.table_of("project.scripts"))
+        self.assertLessEqual({"lab", *(f"lab-{name}" for name in names_of_tools())}, set(commands))
+        self.assertEqual(set(commands.values()), {"labtools.common.program:run_called"})
+
+    # ---- the program
+
+    def test_a_damaged_program_is_told(self) -> None:
+        shutil.copytree(self.place("archive").files, self.room / "damaged", symlinks=True)
+        changed(self.room / "damaged/bin/lab")
+        said = as_another(["./lab", "--version"], self.room / "damaged")
+        self.assertEqual(said.returncode, 70)
+        self.assertIn("/bin/lab is damaged: its sum is ", said.stdout)
+        self.assertNotIn(SOURCES, said.stdout)
+
+    def test_a_program_that_is_damaged_or_of_other_sources_is_not_packed(self) -> None:
+        own = subprocess.run([TOP / "tools/sources"], check=True, stdout=subprocess.PIPE, text=True).stdout.strip()
+        total = hashlib.sha256(self.program).hexdigest()
         program = self.room / "lab"
-        program.write_bytes(self.program)
-        sums = f"{sources}{hashlib.sha256(self.program).hexdigest()}\n"
-        with unittest.mock.patch.object(package, "PROGRAMS", (program,)):
-            for kept, is_changed, fault in (
-                (sums, False, None),
-                (sources, False, "lab.sources has no second line"),
-                (sums, True, "lab is damaged: its sum is "),
-            ):
-                (self.room / "lab.sources").write_text(kept)
-                if is_changed:
-                    changed(program)
+        for kept, is_changed, fault in (
+            (f"{own}\n{total}\n", False, None),
+            (f"{own}\n", False, "lab.sources has no second line"),
+            (f"{own}\n{total}\n", True, "lab is damaged: its sum is "),
+            (f"{SOURCES}\n{total}\n", False, "no program was built from the present sources"),
+        ):
+            program.write_bytes(self.program)
+            (self.room / "lab.sources").write_text(kept, encoding="ascii")
+            if is_changed:
+                changed(program)
+            with self.subTest(fault=fault), unittest.mock.patch.object(package, "PROGRAMS", (program,)):
                 if fault is None:
                     self.assertEqual(package.released_program(), program)
                 else:
                     self.assertRaisesRegex(package.Refused, fault, package.released_program)
-
-    def test_a_program_of_other_sources_is_not_packed(self) -> None:
-        package.PROGRAMS, kept = (self.room / "lab",), package.PROGRAMS
-        try:
-            (self.room / "lab").write_bytes(self.program)
-            (self.room / "lab.sources").write_text(f"{SOURCES}\n")
-            self.assertRaises(package.Refused, package.released_program)
-        finally:
-            package.PROGRAMS = kept
 
 
 class Manual(unittest.TestCase):
@@ -320,16 +429,13 @@ class Manual(unittest.TestCase):
     def test_the_page_of_a_script_has_the_parts_of_its_answer(self) -> None:
         self.assertEqual(page_of_script("lab-make", ANSWER, "3.2"), PAGE)
 
+    @unittest.skipUnless(shutil.which("groff"), "the form of the manual pages, without groff")
     def test_the_pages_are_formatted_without_a_warning(self) -> None:
-        if not shutil.which("groff"):
-            print("passed over: the form of the manual pages, without groff", file=sys.__stdout__)
-            return
-        words = ["groff", "-man", "-Tutf8", "-ww", "-P-c"]
         pages = [package.manual(is_installed=True), package.manual(is_installed=False)]
         pages += [package.manual_of_script(name, text) for name, text in package.answers().items()]
         for page in pages:
-            how = {"input": page, "stdout": subprocess.PIPE, "stderr": subprocess.PIPE}
-            ran = subprocess.run(words, check=True, **how)
+            words = ["groff", "-man", "-Tutf8", "-ww", "-P-c"]
+            ran = subprocess.run(words, input=page, stdout=subprocess.PIPE, stderr=subprocess.PIPE, check=True)
             self.assertEqual(ran.stderr, b"")
             shown = re.sub(".\b", "", ran.stdout.decode())
             self.assertRegex(shown, r"(?s)\nNAME\n +lab.* - .*\nSYNOPSIS\n +\S.*\nSEE ALSO\n")
@@ -354,29 +460,36 @@ class Completion(unittest.TestCase):
             )
         return ran.stdout.split()
 
+    def test_what_may_follow_is_offered(self) -> None:
+        for words, command, wanted in (
+            (("r",), "lab", ["run"]),
+            (("--v",), "lab", ["--version"]),
+            (("run", "--"), "lab", ["--workers", "--until"]),
+            (("gen", "--"), "lab", ["--workers"]),
+            (("check", "--"), "lab", []),
+            (("run", "a.resc", "--workers", ""), "lab", list("12345678")),
+            (("run", "a"), "lab", ["ab", "a.resc"]),
+            (("run", "--until", ""), "lab", []),
+            (("gen", "1", ""), "lab", []),
+            (("a",), "lab-suite", ["ab", "a.resc"]),
+            (("a",), "tools/suite", ["ab", "a.resc"]),
+            (("--junit", "a.re"), "lab-suite", ["a.repl", "a.resc"]),
+            (("--junit", "a.re"), "tools/suite", ["a.repl", "a.resc"]),
+            (("--timeout", ""), "lab-suite", []),
+            (("--timeout", ""), "tools/suite", []),
+            (("--html", "a.re"), "lab-log", ["a.repl", "a.resc"]),
+            (("--split", "a"), "lab-log", ["ab"]),
+            (("--bl",), "lab-expect", ["--bless"]),
+            (("--bless", "a"), "lab-expect", ["ab", "a.resc"]),
+            (("a.",), "lab-reads", ["a.resc"]),
+        ):
+            with self.subTest(words=words, command=command):
+                self.assertEqual(self.offered(*words, command=command), wanted)
+
+    def test_the_options_of_a_tool_are_offered(self) -> None:
+        for name in "lab-suite", "tools/suite":
+            self.assertLess({"-j", "--junit", "--tap", "--timeout", "--help"}, set(self.offered("-", command=name)))
+
     def test_scripts_are_offered_where_no_folder_matches(self) -> None:
         self.assertEqual(self.offered("run", "a", folders=()), ["a.resc"])
         self.assertEqual(self.offered("check", "a.", folders=("ab", "b")), ["a.resc"])
-
-    def test_options_and_files_of_the_scripts_are_offered(self) -> None:
-        for name in "lab-suite", "tools/suite":
-            self.assertEqual(self.offered("a", command=name), ["ab", "a.resc"])
-            self.assertLess({"-j", "--junit", "--tap", "--timeout", "--help"}, set(self.offered("-", command=name)))
-            self.assertEqual(self.offered("--junit", "a.re", command=name), ["a.repl", "a.resc"])
-            self.assertEqual(self.offered("--timeout", "", command=name), [])
-        self.assertEqual(self.offered("--html", "a.re", command="lab-log"), ["a.repl", "a.resc"])
-        self.assertEqual(self.offered("--split", "a", command="lab-log"), ["ab"])
-        self.assertEqual(self.offered("--bl", command="lab-expect"), ["--bless"])
-        self.assertEqual(self.offered("--bless", "a", command="lab-expect"), ["ab", "a.resc"])
-        self.assertEqual(self.offered("a.", command="lab-reads"), ["a.resc"])
-
-    def test_words_options_and_scripts_are_offered(self) -> None:
-        self.assertEqual(self.offered("r"), ["run"])
-        self.assertEqual(self.offered("--v"), ["--version"])
-        self.assertEqual(self.offered("run", "--"), ["--workers", "--until"])
-        self.assertEqual(self.offered("gen", "--"), ["--workers"])
-        self.assertEqual(self.offered("check", "--"), [])
-        self.assertEqual(self.offered("run", "a.resc", "--workers", ""), list("12345678"))
-        self.assertEqual(self.offered("run", "a"), ["ab", "a.resc"])
-        self.assertEqual(self.offered("run", "--until", ""), [])
-        self.assertEqual(self.offered("gen", "1", ""), [])

@@ -4,13 +4,13 @@ import os
 import shutil
 import sys
 
+from labdev.pythons import has_pyelftools
 from labtools.common.program import TOP, path_of_program
 from tests.commands import Commands
 
 # What is passed over, and by which test.
 ROWS = (
     ("whether each page is freed, without valgrind", "pages_are_freed"),
-    ("the reports, without pyelftools", "where.Reports"),
     ("the files that the program opens, without strace", "reads.Opened"),
     ("a run that is killed, without strace", "store -k is_killed"),
     ("a disk that refuses a call, without strace", "store -k refuses_a_call"),
@@ -19,6 +19,7 @@ ROWS = (
     ("test_suite.Servers.test_ctest, without cmake", "suite.Servers.test_ctest"),
     ("the words of the loops, without an assembler for RISC-V", "speed -k words_are_those"),
 )
+WITHOUT_PYELFTOOLS = (("the reports, without pyelftools", "where.Reports"),)
 ROWS_OF_ROOT = (
     ("a folder that may not be entered, as root, who may read all", "explain -k may_not_be_entered"),
     ("a device of the system, as root, who could replace it", "store -k device_of_the_system"),
@@ -32,7 +33,8 @@ class PassedOver(Commands):
             (self.room / "few" / name).symlink_to(path)
         self.environment["LAB"] = path_of_program()
         python = str(TOP / "python")
-        for what, words in [*ROWS, *(ROWS_OF_ROOT if os.geteuid() == 0 else ())]:
+        rows = [*ROWS, *(ROWS_OF_ROOT if os.geteuid() == 0 else ())]
+        for what, words in [*rows, *(() if has_pyelftools(sys.executable) else WITHOUT_PYELFTOOLS)]:
             with self.subTest(words=words):
                 test, *rest = words.split()
                 command = [sys.executable, "-m", "labdev.quiet", f"tests.test_{test}", *rest]

@@ -247,8 +247,8 @@ class Traps(InRoom):
 
     def test_a_loop_is_told_wherever_in_it_the_processor_is(self) -> None:
         """`within` has turns of three slots and `called` of five, so all places come before one of these times."""
-        for time in range(95, 100):
-            text = self.where("loops.resc", "--at", f"0.{time:06}")
+        for micros in range(95, 100):
+            text = self.where("loops.resc", "--at", f"0.{micros:06}")
             self.assertEqual(text.count("a trap loop"), 3, text)
 
     def test_a_trap_that_is_handled_is_no_loop(self) -> None:
@@ -391,8 +391,8 @@ class Faults(InRoom):
         self.assertIn("tools/where: cut: no snapshot of lab: ends within a value", self.refused("cut"))
 
     def test_words_that_are_wrong(self) -> None:
-        for words in ["ask.resc", "asker"], ["ask.resc", "--at", "soon"], []:
-            self.assertEqual(self.run_tool("where", *words)[0], 2)
+        for wrong in "ask.resc asker", "ask.resc --at soon", "":
+            self.assertEqual(self.run_tool("where", *wrong.split())[0], 2)
         status, text, _ = self.run_tool("where", "--help")
         self.assertEqual(status, 0)
         self.assertIn("tools/where [--at TIME]", text)
@@ -639,6 +639,8 @@ os.execv(sys.argv[1], sys.argv[1:])
 
 
 class Ended(unittest.TestCase):
+    """What is left of tools that run lab, which is nothing."""
+
     def setUp(self) -> None:
         folder = tempfile.TemporaryDirectory(prefix="lab-tests-where-")
         self.addCleanup(folder.cleanup)
@@ -668,22 +670,27 @@ class Ended(unittest.TestCase):
 
     def test_its_folder_and_its_run_go_with_it_however_it_ends(self) -> None:
         for number in signal.SIGTERM, signal.SIGHUP, signal.SIGINT, signal.SIGKILL:
-            with self.subTest(number=number):
-                self.end_by(number)
+            for tool, words in ("where", "s.resc"), ("expect", "s.resc s.log"), ("expect", "--bless s.resc s.log"):
+                with self.subTest(number=number, tool=tool, words=words):
+                    status, told = self.end_by(number, tool, words.split())
+                    wanted = (130, f"tools/{tool}: it was interrupted\n") if number == signal.SIGINT else (-number, "")
+                    self.assertEqual((status, told), wanted)
+        self.assertFalse((self.folder / "s.log").exists())
 
-    def end_by(self, number: int) -> None:
-        """Ends tools/where by a signal while lab runs."""
+    def end_by(self, number: int, tool: str, given: List[str]) -> Tuple[int, str]:
+        """Ends a tool by a signal while lab runs. Returns its status, and what it says on the standard error."""
         named = {"LAB": str(self.folder / "lab"), "TMPDIR": str(self.room), "PROCESS": str(self.folder / "process")}
-        words = [sys.executable, "-c", HEED, sys.executable, str(TOP / "tools/where"), "s.resc"]
+        words = [sys.executable, "-c", HEED, sys.executable, str(TOP / "tools" / tool), *given]
         (self.folder / "process").write_text("", encoding="utf-8")
-        how = {"cwd": self.folder, "env": {**os.environ, **named}, "stderr": subprocess.DEVNULL}
-        with subprocess.Popen(words, **how) as process:
+        env = {**os.environ, **named}
+        with subprocess.Popen(words, cwd=self.folder, env=env, stderr=subprocess.PIPE, text=True) as process:
             try:
                 self.wait_for(lambda: self.process() > 0)
-                self.assertEqual([it.name[:10] for it in self.room.iterdir()], ["lab-where-"])
+                self.assertEqual([it.name.rpartition("-")[0] for it in self.room.iterdir()], [f"lab-{tool}"])
                 process.send_signal(number)
-                process.wait(240)
+                told = process.communicate(timeout=240)[1]
                 self.wait_for(lambda: not self.is_running() and not list(self.room.iterdir()))
+                return process.returncode, told
             finally:
                 process.kill()
                 if self.is_running():

@@ -29,7 +29,7 @@ def top_of(tools: pathlib.Path) -> pathlib.Path:
 TOP = top_of(TOOLS)
 
 # A tool and ./lab as texts name them, but not as the ends of longer paths.
-NAMED = re.compile(r"(?<![\w./)}-])tools/([a-z]+)\b(?!\.)")
+NAMED = re.compile(r"(?<![\w./)}-])tools/([a-z]+)\b(?!\.\w)")
 LAB = re.compile(r"(?<![\w./])\./lab\b(?![\w./-])")
 
 

@@ -17,8 +17,8 @@ NO_READER = (
 )
 # The beginning of a file of 32 bits that has the lowest byte first, and the number of the machine.
 IDENT, RISCV = b"\x7fELF\x01\x01", 243
-HEADER = struct.Struct("<16sHHIIIIIHHHHHH")
-SEGMENT_SIZE, SECTION_SIZE, SYMBOL_SIZE = 32, 40, 16
+HEADER, SEGMENT, SECTION = struct.Struct("<16sHHIIIIIHHHHHH"), struct.Struct("<8I"), struct.Struct("<10I")
+NULL, SYMBOLS, STRINGS, NOBITS, SYMBOL_SIZE = 0, 2, 3, 8, 16
 WRITE, ALLOC, EXECUTE = 1, 2, 4
 REGISTERS = 32
 INLINED = "DW_TAG_inlined_subroutine"
@@ -123,33 +123,34 @@ def content_of(path: str) -> bytes:
     return data
 
 
-def faults_of_header(data: bytes) -> Iterator[str]:
-    """Yields what is wrong with the places of the tables, which may be that of a file that was cut off."""
+def faults_of(data: bytes) -> Iterator[str]:
+    """Yields what is wrong with the tables of a file, and with the places in it that they name: most is wrong with one
+    that was cut off."""
     head = HEADER.unpack_from(data)
-    tables = (("segments", head[5], head[9:11], SEGMENT_SIZE), ("sections", head[6], head[11:13], SECTION_SIZE))
-    for name, at, (size, count), wanted in tables:
-        if count and size != wanted:
-            yield f"the headers of its {name} have {size} bytes, and not {wanted}"
-        if at + count * wanted > len(data):
+    tables = (("segments", head[5], head[9:11], SEGMENT), ("sections", head[6], head[11:13], SECTION))
+    for name, at, (size, count), form in tables:
+        if count and size != form.size:
+            yield f"the headers of its {name} have {size} bytes, and not {form.size}"
+        if at + count * form.size > len(data):
             yield f"the headers of its {name} end behind its end"
-    if head[12] and head[13] >= head[12]:
-        yield "the names of its sections are nowhere"
+    segments = SEGMENT.iter_unpack(data[head[5] :][: head[10] * SEGMENT.size])
+    sections = list(SECTION.iter_unpack(data[head[6] :][: head[12] * SECTION.size]))
+    places = [(f"segment {number}", it[1], it[4]) for number, it in enumerate(segments)]
+    places += [(f"section {number}", it[4], it[5]) for number, it in enumerate(sections) if it[1] not in (NULL, NOBITS)]
+    yield from (f"{name} ends behind its end" for name, at, size in places if size and at + size > len(data))
+    yield from faults_of_names(sections, head[13])
 
 
-def faults_of_parts(file: Any, size: int) -> Iterator[str]:
-    """Yields what is wrong with the segments and sections of a file of so many bytes."""
-    sections = list(file.iter_sections())
-    held = [it for it in enumerate(sections) if it[1]["sh_type"] not in ("SHT_NULL", "SHT_NOBITS")]
-    parts = [(f"segment {number}", it["p_offset"], it["p_filesz"]) for number, it in enumerate(file.iter_segments())]
-    parts += [(f"section {number}", it["sh_offset"], it["sh_size"]) for number, it in held]
-    yield from (f"{name} ends behind its end" for name, at, count in parts if count and at + count > size)
-    if sections and sections[file["e_shstrndx"]]["sh_type"] != "SHT_STRTAB":
+def faults_of_names(sections: List[Tuple[int, ...]], names: int) -> Iterator[str]:
+    """Yields what is wrong with the names of sections, whose number is given, and with tables of symbols."""
+    strings = [number for number, it in enumerate(sections) if it[1] == STRINGS]
+    if sections and names not in strings:
         yield "the names of its sections are nowhere"
-    for number, it in held:
-        if it["sh_type"] == "SHT_SYMTAB" and (it["sh_entsize"] != SYMBOL_SIZE or it["sh_size"] % SYMBOL_SIZE):
-            yield f"section {number} has symbols of {it['sh_entsize']} bytes, and not {SYMBOL_SIZE}"
-        if it["sh_type"] == "SHT_SYMTAB" and sections[it["sh_link"]]["sh_type"] != "SHT_STRTAB":
+    for number, it in enumerate(sections):
+        if it[1] == SYMBOLS and it[6] not in strings:
             yield "the names of its symbols are nowhere"
+        if it[1] == SYMBOLS and (it[9] != SYMBOL_SIZE or it[5] % SYMBOL_SIZE):
+            yield f"section {number} has symbols of {it[9]} bytes, and not {SYMBOL_SIZE}"
 
 
 class Elf:
@@ -161,9 +162,9 @@ class Elf:
         self.fault: Optional[str] = None
         data = content_of(path)
         with faults_told(path):
-            self.refuse(faults_of_header(data))
+            for fault in faults_of(data):
+                raise NoElf(f"{path}: cannot be read: {fault}")
             self.file = importlib.import_module("elftools.elf.elffile").ELFFile(io.BytesIO(data))
-            self.refuse(faults_of_parts(self.file, len(data)))
             self.sections = list(read_sections(self.file))
             self.symbols = best_of(read_symbols(self.file))
         self.dwarf: Any = None
@@ -173,11 +174,6 @@ class Elf:
         self.lines: Dict[int, List[Line]] = {}
         with self.faults_kept():
             self.read_frames()
-
-    def refuse(self, faults: Iterator[str]) -> None:
-        """Tells what is wrong first, if anything is."""
-        for fault in faults:
-            raise NoElf(f"{self.path}: cannot be read: {fault}")
 
     @contextlib.contextmanager
     def faults_kept(self) -> Iterator[None]:
