@@ -23,6 +23,7 @@ import collections
 import concurrent.futures
 import glob
 import os
+import pathlib
 import random
 import re
 import shutil
@@ -34,6 +35,7 @@ from typing import Any, Counter, Dict, Iterator, List, Tuple, Union
 from labdev import cases, trials
 from labdev.cases import Files
 from labtools.common.program import TOP, end_unless, end_wrong, number_of, path_of_program
+from labtools.common.rooms import Room
 
 USAGE = "[COUNT [SEED]]"
 SECONDS = 1
@@ -205,13 +207,13 @@ def seconds_of(room: str, words: List[str]) -> float:
 
 
 class Trial:
-    """Laboratories that are damaged one at a time, each worker in a room of its own."""
+    """Laboratories that are damaged one at a time, each worker in a room of its own in this folder."""
 
-    def __init__(self, program: str, seed: str) -> None:
+    def __init__(self, program: str, seed: str, folder: pathlib.Path) -> None:
         self.program = program
         self.seed = seed
+        self.folder = folder
         self.mine = threading.local()
-        self.rooms: List[str] = []
         self.lock = threading.Lock()
         self.tried = self.went_on = self.wrong = 0
         self.ends: Counter[Union[int, str, None]] = collections.Counter()
@@ -220,9 +222,7 @@ class Trial:
         """Returns this worker's room, with the files of the laboratory in it."""
         if getattr(self.mine, "laboratory", None) is not laboratory:
             if not getattr(self.mine, "room", None):
-                self.mine.room = tempfile.mkdtemp(prefix="lab-mangle-")
-                with self.lock:
-                    self.rooms.append(self.mine.room)
+                self.mine.room = tempfile.mkdtemp(dir=self.folder)
             self.mine.laboratory = laboratory
             trials.furnish(self.mine.room, laboratory.files)
         return str(self.mine.room)
@@ -260,14 +260,9 @@ class Trial:
             self.ends[ran.refusal[3].decode() if ran.refusal else ran.status] += 1
 
     def try_all(self, damages: List[Tuple[Laboratory, str, int, str]]) -> None:
-        trials.unwind_at_ends()
-        try:
-            with concurrent.futures.ThreadPoolExecutor(trials.lanes()) as workers:
-                for at in range(0, len(damages), BATCH):
-                    list(workers.map(lambda it: self.try_one(*it), damages[at : at + BATCH]))
-        finally:
-            for room in self.rooms:
-                shutil.rmtree(room, ignore_errors=True)
+        with concurrent.futures.ThreadPoolExecutor(trials.lanes()) as workers:
+            for at in range(0, len(damages), BATCH):
+                list(workers.map(lambda it: self.try_one(*it), damages[at : at + BATCH]))
 
 
 def main(words: List[str]) -> int:
@@ -280,8 +275,10 @@ def main(words: List[str]) -> int:
         if count > len(chosen):
             end_wrong(f"there are {len(chosen)} such files, and not {count}")
         chosen = [chosen[at] for at in sorted(random.Random(seed).sample(range(len(chosen)), count))]
-    trial = Trial(program, seed)
-    trial.try_all(chosen)
+    trials.unwind_at_ends()
+    with Room("lab-mangle-") as room:
+        trial = Trial(program, seed, room.path)
+        trial.try_all(chosen)
     if count is None:
         print(f"{trial.tried} damaged files, {trial.went_on} runs ended after a second, {trial.wrong} answers wrong")
         print(", ".join(f"{cause}: {number}" for cause, number in sorted(trial.ends.items(), key=str)))

@@ -26,7 +26,7 @@ from typing import Dict, List, Optional
 
 from labdev import trials
 from labdev.released import fault_of
-from labtools.common.program import TOP, parser_of, path_of_program
+from labtools.common.program import TOP, drop_output, parser_of, path_of_program
 
 RELEASED = TOP / "bin/lab"
 # What a test may take at most, and after how many seconds it is told again how far they are.
@@ -271,5 +271,8 @@ def main(words: List[str]) -> int:
         failed = try_all(tests, Runs(program))
     except KeyboardInterrupt:
         return 130
+    except BrokenPipeError:
+        drop_output()
+        return 1
     print(f"{len(tests) - failed} passed, {failed} failed")
     return 1 if failed else 0

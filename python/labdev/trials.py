@@ -9,7 +9,7 @@ import sys
 from typing import Any, Iterable, List, Optional, Sequence
 
 from labdev.cases import Files
-from labtools.common.program import TOP, name_of_script
+from labtools.common.program import TOP, drop_output, name_of_script
 
 # How long a run may take where a tool does not say otherwise, in seconds.
 SECONDS = 60
@@ -82,7 +82,11 @@ def tell_wrong(texts: Iterable[str]) -> int:
     """Prints what is wrong, as it is found, and returns the status of the tool."""
     status = 0
     unwind_at_ends()
-    for text in texts:
-        print(f"{name_of_script()}: {text}", flush=True)
-        status = 1
+    try:
+        for text in texts:
+            print(f"{name_of_script()}: {text}", flush=True)
+            status = 1
+    except BrokenPipeError:
+        drop_output()
+        return 1
     return status
