@@ -1,6 +1,6 @@
 """Tries tools/expect: a log is kept, and is a test from then on."""
 from labtools.common.program import TOP
-from tests.test_lab import LOG, Packaged
+from tests.commands import LOG, Packaged
 
 EXPECT = TOP / "tools/expect"
 

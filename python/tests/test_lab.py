@@ -3,21 +3,9 @@ by several workers."""
 import pathlib
 import shutil
 
-from labtools.common.program import TOP, path_of_program
-from tests.commands import Commands
+from labtools.common.program import TOP
+from tests.commands import SCRIPT, Packaged
 
-BOARD = """ram: Memory.MappedMemory @ sysbus 0x80000000 { size: 0x10000 }
-fin: Miscellaneous.SiFiveTest @ sysbus 0x100000
-cpu: CPU.RiscV32 @ sysbus { cpuType: "rv32im" }
-"""
-SCRIPT = """mach create m0
-machine LoadPlatformDescription @test/board.repl
-sysbus LoadBinary @test/image.bin 0x80000000
-cpu PC 0x80000000
-start
-"""
-# How a finisher of this board ends the run: demo/pass has the program.
-LOG = "[0.000100] pause m0/fin: pass\n"
 # Where nobody reads on.
 INTO_NOTHING = '{ sleep 0.2; "$0" "$@"; } | :; exit "${PIPESTATUS[0]}"'
 INTO_SOCKET = """import socket, subprocess, sys
@@ -40,33 +28,6 @@ IMAGES = (
 # A thread's stack is as large as `ulimit -s` says, and finds no room under `ulimit -v`.
 NO_THREADS = 'ulimit -s 4000000 -v 2000000; exec "$0" "$@"'
 SMALL_FILES = 'trap "" XFSZ; ulimit -f 8; exec "$0" "$@"'
-
-
-class Packaged(Commands):
-    """A folder as a package has it, whose ./lab takes the program that is tried, whatever the sources are."""
-
-    def setUp(self) -> None:
-        super().setUp()
-        (self.room / "package/bin").mkdir(parents=True)
-        for name in "lab", "VERSION":
-            shutil.copy(TOP / name, self.room / "package")
-        for name in "tools", "python":
-            (self.room / "package" / name).symlink_to(TOP / name)
-        (self.room / "package/bin/lab").symlink_to(path_of_program())
-        self.lab = str(self.room / "package/lab")
-        self.environment["LAB"] = self.lab
-        self.write("test/board.repl", BOARD)
-        self.write("test/s.resc", SCRIPT)
-        for name in "pass", "fail":
-            shutil.copy(TOP / f"demo/{name}/sum.bin", self.room / f"test/{name}.bin")
-        self.use("pass")
-
-    def use(self, name: str) -> None:
-        """Has the board pass its test or fail it."""
-        shutil.copy(self.room / f"test/{name}.bin", self.room / "test/image.bin")
-
-    def add_unknown_command(self) -> None:
-        self.write("test/s.resc", f"{SCRIPT}foo\n")
 
 
 class Lab(Packaged):
