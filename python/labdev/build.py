@@ -20,10 +20,13 @@ import subprocess
 import sys
 import tempfile
 import time
-from typing import IO, Dict, Iterable, Iterator, List, Optional, Set
+from typing import IO, Dict, Iterable, Iterator, List, Optional
 
-from labtools.common.program import TOP, answer_help, end_unless, number_of
-
+from labdev import trials
+from labdev.crates import PROGRAM as CRATE_OF_PROGRAM
+from labdev.crates import below, uses_of
+from labdev.released import sum_of_sources
+from labtools.common.program import TOP, end_unless, number_of
 
 FOLDER = f"{TOP}/crates/lab_cli"
 PROGRAM = f"{FOLDER}/out/lab_cli"
@@ -72,33 +75,20 @@ def lanes_for_this_machine() -> int:
     return processors if free is None else max(1, min(processors, free // MEMORY_OF_A_CHECK))
 
 
-def sum_of_sources() -> str:
-    return subprocess.run([f"{TOP}/tools/sources"], check=True, stdout=subprocess.PIPE, text=True).stdout
-
-
-def crates_of_program() -> Set[str]:
-    """Returns the names of the program's crate and of all crates below it."""
-    said = subprocess.run([f"{TOP}/tools/sources", "--crates"], check=True, stdout=subprocess.PIPE, text=True)
-    return set(said.stdout.split())
-
-
 class Plan:
     """What each crate of the program is likely to take, and when it will be done."""
 
     def __init__(self, lanes: int) -> None:
-        self.uses = uses_of_crates(crates_of_program())
+        uses = uses_of((TOP / "crates.txt").read_text(encoding="utf-8"))
+        self.uses = {name: uses[name] for name in below(uses, CRATE_OF_PROGRAM)}
         self.sums: Dict[str, str] = {}
         proved = proved_before()
         self.seconds = {it: self.seconds_of(it, proved) for it in self.in_order()}
         self.ends = self.schedule(lanes)
 
-    def below(self, name: str) -> Set[str]:
-        """Returns a crate and those below it."""
-        return {name}.union(*(self.below(it) for it in self.uses[name]))
-
     def in_order(self) -> List[str]:
         """Returns the crates as `rt all` takes them: those with the fewest below them first."""
-        return sorted(self.uses, key=lambda it: (len(self.below(it)), it))
+        return sorted(self.uses, key=lambda it: (len(below(self.uses, it)), it))
 
     def seconds_of(self, name: str, proved: Dict[str, str]) -> float:
         """Returns what a crate takes. Its sum has those of the crates that it uses, which come before it."""
@@ -147,17 +137,6 @@ def proved_before() -> Dict[str, str]:
         return dict(json.loads(PROVED.read_text()))
     except (OSError, ValueError, TypeError):
         return {}
-
-
-def uses_of_crates(names: Set[str]) -> Dict[str, Set[str]]:
-    """Returns for each of these crates those of them that it uses, by crates.txt."""
-    uses: Dict[str, Set[str]] = {}
-    with open(f"{TOP}/crates.txt", encoding="utf-8") as file:
-        for line in file:
-            head, is_crate, used = line.partition("#")[0].partition(":")
-            if is_crate and head.split()[0] in names:
-                uses[head.split()[0]] = names.intersection(used.split())
-    return uses
 
 
 class Run:
@@ -274,7 +253,7 @@ def keep_sum(before: str) -> None:
     if sum_of_sources() != before:
         raise Failed("the sources have changed during the build; start it again")
     with open(f"{PROGRAM}.sources", "w", encoding="ascii") as file:
-        file.write(before)
+        file.write(f"{before}\n")
 
 
 def build(lanes: int, log: IO[str]) -> None:
@@ -290,12 +269,9 @@ def build(lanes: int, log: IO[str]) -> None:
 
 
 def main(words: List[str]) -> int:
-    answer_help(__doc__)
     end_unless(len(words) < 2, "[LANES]")
     lanes = number_of(words[0], "[LANES]", MOST_LANES) if words else lanes_for_this_machine()
-    # So that what runs is ended when this run is told to end.
-    for number in (signal.SIGTERM, signal.SIGHUP):
-        signal.signal(number, lambda told, _: sys.exit(128 + told))
+    trials.unwind_at_ends()
     status = 0
     with tempfile.NamedTemporaryFile("w", prefix="lab-build-", suffix=".log", delete=False) as log:
         try:
@@ -309,7 +285,3 @@ def main(words: List[str]) -> int:
             status = 130
     os.remove(log.name)
     return status
-
-
-if __name__ == "__main__":
-    sys.exit(main(sys.argv[1:]))

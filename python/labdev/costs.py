@@ -17,14 +17,10 @@ import sys
 import tempfile
 from typing import Callable, Dict, List, Tuple, Union
 
+from labdev import trials
 from labdev.gate_costs import tell_costs
-from labtools.common.program import TOP, answer_help, end_unless, end_with, path_of_program
+from labtools.common.program import TOP, end_unless, path_of_program
 
-
-answer_help(__doc__)
-if sys.argv[1:2] == ["--gate"]:
-    end_unless(len(sys.argv) > 2, "--gate COMMAND ..")
-    end_with(lambda: tell_costs(sys.argv[2:]))
 SECONDS = 60
 MIB = 2**20
 RAM = "ram: Memory.MappedMemory @ sysbus 0x80000000 { size: 0x10000 }\n"
@@ -32,6 +28,7 @@ CPU = 'cpu: CPU.RiscV32 @ sysbus { cpuType: "rv32im" }\n'
 BOARD = "mach create\nmachine LoadPlatformDescription @p.repl\n"
 P = {"p.repl": RAM + CPU}
 Files = Dict[str, Union[str, bytes]]
+Made = Callable[[], Files]
 
 
 def typed(count: int) -> Files:
@@ -123,13 +120,12 @@ def filled(saves: int) -> Files:
     return {"s.resc": (BOARD + load) * 16 + "Save @x\n" * saves, "p.repl": ram + CPU, "f": image}
 
 
-def kept() -> Files:
+def kept(program: str) -> Files:
     """A snapshot of them, which is taken back."""
     with tempfile.TemporaryDirectory(prefix="lab-costs-") as room:
         place(room, filled(1))
-        subprocess.run([PROGRAM, "run", "s.resc"], cwd=room, check=True)
-        with open(f"{room}/x", "rb") as file:
-            return {"s.resc": "Load @x\n", "x": file.read()}
+        trials.run([program, "run", "s.resc"], room)
+        return {"s.resc": "Load @x\n", "x": trials.files_in(room)["x"]}
 
 
 def waiting() -> Files:
@@ -144,7 +140,7 @@ def waiting() -> Files:
     return {"s.resc": script, "p.repl": RAM + uart + CPU, "f": image}
 
 
-INPUTS: Dict[str, Callable[[], Files]] = {
+INPUTS: Dict[str, Made] = {
     "platform of 16,000 typed heads": lambda: typed(16000),
     "platform of 64,000 typed heads": lambda: typed(64000),
     "platform of 64,000 heads, half of them further": lambda: updated(64000),
@@ -185,8 +181,8 @@ INPUTS: Dict[str, Callable[[], Files]] = {
     "platform of 20,000 further items, loaded four times": items_of_a_platform,
     "16 boards of a MiB each": lambda: filled(0),
     "16 boards of a MiB each, kept ten times": lambda: filled(10),
-    "16 boards of a MiB each, taken back": kept,
 }
+TAKEN_BACK = "16 boards of a MiB each, taken back"
 # The most that each test of a suite may print.
 SUITES: Dict[str, str] = {
     "a suite of four tests that poll, each up to 100 KB": "100000",
@@ -194,18 +190,13 @@ SUITES: Dict[str, str] = {
     "a suite of four tests that poll, each up to 100 MB": "100000000",
     "a suite of four tests that poll, each up to 500 MB": "500000000",
 }
-for given in sys.argv[1:]:
-    end_unless(any(given in name for name in [*INPUTS, *SUITES]), "[WORD ..]", f"no name has the word {given}")
-PROGRAM = path_of_program()
 
 
 def place(room: str, files: Files) -> None:
-    for name, held in files.items():
-        with open(f"{room}/{name}", "wb") as file:
-            file.write(held if isinstance(held, bytes) else held.encode())
+    trials.put(room, {name: held if isinstance(held, bytes) else held.encode() for name, held in files.items()})
 
 
-def measure(files: Files, words: List[str]) -> Tuple[int, float, float, int, str]:
+def measure(files: Files, words: List[str], program: str) -> Tuple[int, float, float, int, str]:
     """Returns how these words end beside files, their seconds, their most memory in MB, and how many bytes are printed,
     with the last line."""
     with tempfile.TemporaryDirectory(prefix="lab-costs-") as room:
@@ -213,22 +204,21 @@ def measure(files: Files, words: List[str]) -> Tuple[int, float, float, int, str
         # `time` starts the run, since a run's most memory counts that of the program which has started it.
         limited = ["bash", "-c", f'ulimit -t {SECONDS}; exec "$@"', "-", *words]
         timed = ["/usr/bin/time", "-q", "-f", "%U %S %M", "-o", f"{room}/used", *limited]
-        how = {"cwd": room, "stdin": subprocess.DEVNULL, "env": {**os.environ, "LAB": PROGRAM, "TMPDIR": room}}
-        with open(f"{room}/printed", "wb") as printed:
-            status = subprocess.run(timed, stdout=printed, **how).returncode
-        with open(f"{room}/used", encoding="ascii") as file:
-            user, system, memory = map(float, file.read().split()[-3:])
-        size = os.path.getsize(f"{room}/printed")
-        with open(f"{room}/printed", "rb") as printed:
+        environment = {**os.environ, "LAB": program, "TMPDIR": room}
+        with open(f"{room}/printed", "w+b") as printed:
+            ran = subprocess.run(timed, stdout=printed, cwd=room, stdin=subprocess.DEVNULL, env=environment)
+            size = printed.seek(0, os.SEEK_END)
             printed.seek(max(size - 120, 0))
             text = printed.read()
+        with open(f"{room}/used", encoding="ascii") as file:
+            user, system, memory = map(float, file.read().split()[-3:])
         last = text.split(b"\n")[-2].decode(errors="replace") if b"\n" in text else ""
-        return status, user + system, memory / 1024, size, last
+        return ran.returncode, user + system, memory / 1024, size, last
 
 
-def tell(name: str, files: Files, words: List[str]) -> None:
+def tell(name: str, files: Files, words: List[str], program: str) -> None:
     size = sum(map(len, files.values())) / 1e6
-    status, seconds, memory, printed, last = measure(files, words)
+    status, seconds, memory, printed, last = measure(files, words, program)
     print(
         f"{name}: {size:.1f} MB of files, ends with {status} after {seconds:.2f} s, {memory:.0f} MB, "
         f"{printed / 1e6:.1f} MB printed; {last[:60]}",
@@ -236,14 +226,21 @@ def tell(name: str, files: Files, words: List[str]) -> None:
     )
 
 
-def main(words: List[str]) -> None:
-    for name, made in INPUTS.items():
-        if not words or any(word in name for word in words):
-            tell(name, made(), [PROGRAM, "run", "s.resc"])
-    for name, most in SUITES.items():
-        if not words or any(word in name for word in words):
-            tell(name, suite_of_polls(), [sys.executable, f"{TOP}/tools/suite", "--most", most, "."])
-
-
-if __name__ == "__main__":
-    main(sys.argv[1:])
+def main(words: List[str]) -> int:
+    if words[:1] == ["--gate"]:
+        end_unless(len(words) > 1, "--gate COMMAND ..")
+        return tell_costs(words[1:])
+    names = [*INPUTS, TAKEN_BACK, *SUITES]
+    for word in words:
+        end_unless(any(word in name for name in names), "[WORD ..]", f"no name has the word {word}")
+    program = path_of_program()
+    inputs: Dict[str, Made] = {**INPUTS, TAKEN_BACK: lambda: kept(program)}
+    for name in names:
+        if words and not any(word in name for word in words):
+            continue
+        if name in inputs:
+            tell(name, inputs[name](), [program, "run", "s.resc"], program)
+        else:
+            suite = [sys.executable, f"{TOP}/tools/suite", "--most", SUITES[name], "."]
+            tell(name, suite_of_polls(), suite, program)
+    return 0

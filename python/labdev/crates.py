@@ -7,12 +7,10 @@ Crates of tests and programs beside `lab` are left out, and so are libraries of 
 that cannot be printed, and with 2 where its words are wrong.
 """
 import functools
-import sys
 import textwrap
-from typing import Dict, List
+from typing import Dict, List, Set
 
-from labtools.common.program import TOP, answer_help, end_unless, end_with
-
+from labtools.common.program import TOP, end_unless
 
 PROGRAM = "lab_cli"
 COLUMNS = 110
@@ -26,9 +24,15 @@ def uses_of(text: str) -> Dict[str, List[str]]:
     return {row[0].split()[0]: [it for it in row[2].split() if it in names] for row in rows}
 
 
-def below(uses: Dict[str, List[str]], crate: str) -> "set[str]":
+def below(uses: Dict[str, List[str]], crate: str) -> Set[str]:
     """Returns a crate and all that it stands on."""
-    return {crate}.union(*(below(uses, it) for it in uses[crate]))
+    found: Set[str] = set()
+    left = [crate]
+    while left:
+        one = left.pop()
+        left += [] if one in found else uses[one]
+        found.add(one)
+    return found
 
 
 def chains_of(uses: Dict[str, List[str]]) -> Dict[str, List[str]]:
@@ -36,7 +40,8 @@ def chains_of(uses: Dict[str, List[str]]) -> Dict[str, List[str]]:
 
     @functools.lru_cache(maxsize=None)
     def chain(crate: str) -> List[str]:
-        longest = max((chain(it) for it in sorted(uses[crate])), key=len, default=[])
+        none: List[str] = []
+        longest = max((chain(it) for it in sorted(uses[crate])), key=len, default=none)
         return [crate, *longest]
 
     return {crate: chain(crate) for crate in uses}
@@ -44,7 +49,8 @@ def chains_of(uses: Dict[str, List[str]]) -> Dict[str, List[str]]:
 
 def layers(uses: Dict[str, List[str]]) -> List[str]:
     """Returns a line a layer, and more where it is long."""
-    chains = {crate: chain for crate, chain in chains_of(uses).items() if crate in below(uses, PROGRAM)}
+    among = below(uses, PROGRAM)
+    chains = {crate: chain for crate, chain in chains_of(uses).items() if crate in among}
     lines = []
     for height in range(len(chains[PROGRAM]), 0, -1):
         crates = " ".join(sorted(crate for crate, chain in chains.items() if len(chain) == height))
@@ -53,12 +59,7 @@ def layers(uses: Dict[str, List[str]]) -> List[str]:
     return lines
 
 
-def main() -> None:
-    answer_help(__doc__)
-    end_unless(sys.argv[1:] in ([], ["--chain"]), "[--chain]")
+def main(words: List[str]) -> None:
+    end_unless(words in ([], ["--chain"]), "[--chain]")
     uses = uses_of((TOP / "crates.txt").read_text(encoding="utf-8"))
-    print("\n".join(layers(uses) if not sys.argv[1:] else [" > ".join(chains_of(uses)[PROGRAM])]))
-
-
-if __name__ == "__main__":
-    end_with(main)
+    print("\n".join([" > ".join(chains_of(uses)[PROGRAM])] if words else layers(uses)))

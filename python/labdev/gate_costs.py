@@ -1,5 +1,5 @@
-"""What a run of the gate costs: the processor seconds of the prover by crate and by kind of work, as /proc has them while
-it runs, and those of the whole run, as the system sums them up.
+"""What a run of the gate costs: the processor seconds of the prover by crate and by kind of work, as /proc has them
+while it runs, and those of the whole run, as the system sums them up.
 
 The prover is looked at twice a second, so a process is told with up to half a second too little; what is missing, and
 what the kit and the compilers take, is the rest of the whole.

@@ -19,30 +19,25 @@ tried; without it also how much was tried. As many are tried at a time as there 
 it fewer. It ends with 0 where nothing was wrong, with 1 where something was, and with 2 where its words are wrong:
 COUNT is a number from 1 to as many as there are.
 """
+import collections
 import concurrent.futures
 import glob
 import os
+import pathlib
 import random
 import re
 import shutil
 import subprocess
-import sys
 import tempfile
 import threading
-from typing import Any, Dict, Iterator, List, Optional, Tuple, Union
+from typing import Any, Counter, Dict, Iterator, List, Tuple, Union
 
-from labdev import cases
+from labdev import cases, trials
 from labdev.cases import Files
-from labtools.common.program import TOP, answer_help, end_unless, end_wrong, number_of, path_of_program
+from labtools.common.program import TOP, end_unless, end_wrong, number_of, path_of_program
+from labtools.common.rooms import Room
 
-
-answer_help(__doc__)
-COUNT: Optional[int] = None
-if __name__ == "__main__":
-    USAGE = "[COUNT [SEED]]"
-    end_unless(len(sys.argv) < 4, USAGE)
-    COUNT = number_of(sys.argv[1], USAGE) if sys.argv[1:] else None
-PROGRAM = path_of_program()
+USAGE = "[COUNT [SEED]]"
 SECONDS = 1
 LARGEST = 100_000
 # So many trials are handed to the workers at a time.
@@ -72,14 +67,14 @@ class Laboratory:
         self.words = words
         self.files = reached(files, words)
 
-    def made(self) -> Files:
+    def made(self, program: str) -> Files:
         """Returns the files that a run of it makes."""
         if not has(b"Save", self.files):
             return {}
         with tempfile.TemporaryDirectory(prefix="lab-mangle-") as room:
-            furnish_room(room, self.files)
-            Answer(room, self.words)
-            return {name: held for name, held in files_in(room).items() if name not in self.files}
+            trials.put(room, self.files)
+            trials.run([program, *self.words], room, SECONDS)
+            return {name: held for name, held in trials.files_in(room).items() if name not in self.files}
 
     def key(self) -> Tuple[Any, ...]:
         return tuple(self.words), tuple(sorted(self.files.items()))
@@ -110,13 +105,13 @@ def has(word: bytes, files: Files) -> bool:
     return any(re.search(rb"\b%s\b" % word, held) for held in files.values())
 
 
-def of_case(path: str) -> Iterator[Laboratory]:
+def of_case(path: str, program: str) -> Iterator[Laboratory]:
     """Yields the laboratories of a case, each with the files that the runs before it have made."""
     for run in cases.runs_of(path):
         if not run.is_again:
             laboratory = Laboratory(os.path.basename(path), dict(run.files), run.words)
             yield laboratory
-            run.files.update(laboratory.made())
+            run.files.update(laboratory.made(program))
 
 
 def of_demos() -> Iterator[Laboratory]:
@@ -133,8 +128,9 @@ def of_demos() -> Iterator[Laboratory]:
 
 def laboratories() -> List[Laboratory]:
     """Returns the laboratories of all cases and demos that run a script, each once, and no large ones."""
+    program = path_of_program()
     found: Dict[Tuple[Any, ...], Laboratory] = {}
-    every = [it for path in sorted(glob.glob(f"{TOP}/cases/*.case")) for it in of_case(path)]
+    every = [it for path in sorted(glob.glob(f"{TOP}/cases/*.case")) for it in of_case(path, program)]
     for laboratory in [*every, *of_demos()]:
         is_large = sum(map(len, laboratory.files.values())) > LARGEST
         if laboratory.words[:1] in (["run"], ["check"]) and laboratory.files and not is_large:
@@ -152,44 +148,13 @@ def damaged(held: bytes, place: int, way: str, chance: random.Random) -> bytes:
     return before + bytes([chance.choice(others)]) + after
 
 
-def put(room: str, name: str, held: bytes) -> None:
-    os.makedirs(os.path.dirname(f"{room}/{name}") or room, exist_ok=True)
-    with open(f"{room}/{name}", "wb") as file:
-        file.write(held)
-
-
-def furnish_room(room: str, files: Files) -> None:
-    """Makes a folder that has these files and no others."""
-    shutil.rmtree(room, ignore_errors=True)
-    os.mkdir(room)
-    for name, held in files.items():
-        put(room, name, held)
-
-
-def files_in(room: str) -> Files:
-    """Returns the files of a folder."""
-    found: Files = {}
-    for folder, _, names in os.walk(room):
-        for name in names:
-            with open(f"{folder}/{name}", "rb") as file:
-                found[os.path.relpath(f"{folder}/{name}", room)] = file.read()
-    return found
-
-
 class Answer:
-    """How a run has ended, by its status or by None where it went on, and what it has printed."""
-
-    status: Optional[int]
-    printed: bytes
+    """How a run has ended, by its status or by None where it went on, and what it has printed: lines of the log, and
+    the refusal."""
 
     def __init__(self, room: str, words: List[str]) -> None:
-        self.told = b""
-        try:
-            how: Dict[str, Any] = {"cwd": room, "stdin": subprocess.DEVNULL, "capture_output": True}
-            ran = subprocess.run([PROGRAM, *words], timeout=SECONDS, **how)
-            self.status, self.printed, self.told = ran.returncode, ran.stdout, ran.stderr
-        except subprocess.TimeoutExpired as late:
-            self.status, self.printed = None, late.stdout or b""
+        ended = trials.run(words, room, SECONDS)
+        self.status, self.printed, self.told = ended.status, ended.printed, ended.told
         *lines, self.rest = self.printed.split(b"\n")
         # A run that is ended may have printed its refusal already.
         last = REFUSAL.fullmatch(lines[-1]) if lines and self.status in (3, None) else None
@@ -234,42 +199,41 @@ def disagree(checked: Answer, run: Answer, files: Files) -> bool:
 
 def seconds_of(room: str, words: List[str]) -> float:
     """Returns how many seconds of the processor a run takes, up to ten."""
-    limited = ["bash", "-c", 'ulimit -t 10; exec "$@"', "-", PROGRAM, *words]
+    limited = ["bash", "-c", 'ulimit -t 10; exec "$@"', "-", *words]
     child = subprocess.Popen(limited, cwd=room, stdin=subprocess.DEVNULL, stdout=subprocess.DEVNULL)
     _, status, used = os.wait4(child.pid, 0)
     child.returncode = -os.WTERMSIG(status) if os.WIFSIGNALED(status) else os.WEXITSTATUS(status)
-    return used.ru_utime + used.ru_stime
+    return float(used.ru_utime + used.ru_stime)
 
 
 class Trial:
-    """Laboratories that are damaged one at a time, each worker in a room of its own."""
+    """Laboratories that are damaged one at a time, each worker in a room of its own in this folder."""
 
-    def __init__(self, seed: str) -> None:
+    def __init__(self, program: str, seed: str, folder: pathlib.Path) -> None:
+        self.program = program
         self.seed = seed
+        self.folder = folder
         self.mine = threading.local()
-        self.rooms: List[str] = []
         self.lock = threading.Lock()
         self.tried = self.went_on = self.wrong = 0
-        self.statuses: Dict[Union[int, str, None], int] = {}
+        self.ends: Counter[Union[int, str, None]] = collections.Counter()
 
     def room_for(self, laboratory: Laboratory) -> str:
         """Returns this worker's room, with the files of the laboratory in it."""
         if getattr(self.mine, "laboratory", None) is not laboratory:
             if not getattr(self.mine, "room", None):
-                self.mine.room = tempfile.mkdtemp(prefix="lab-mangle-")
-                with self.lock:
-                    self.rooms.append(self.mine.room)
+                self.mine.room = tempfile.mkdtemp(dir=self.folder)
             self.mine.laboratory = laboratory
-            furnish_room(self.mine.room, laboratory.files)
-        return self.mine.room
+            trials.furnish(self.mine.room, laboratory.files)
+        return str(self.mine.room)
 
     def try_one(self, laboratory: Laboratory, file: str, place: int, way: str) -> None:
         room = self.room_for(laboratory)
         chance = random.Random(f"{self.seed} {laboratory.name} {file} {place} {way}")
         files = {**laboratory.files, file: damaged(laboratory.files[file], place, way, chance)}
-        put(room, file, files[file])
+        trials.put(room, {file: files[file]})
         script = next(it for it in laboratory.words[1:] if it in laboratory.files)
-        check, run = ["check", script], laboratory.words
+        check, run = [self.program, "check", script], [self.program, *laboratory.words]
         checked, ran = Answer(room, check), Answer(room, run)
         wrong = [f"check {it}" for it in checked.wrong(files)] + [f"run {it}" for it in ran.wrong(files)]
         if checked.status is None:
@@ -278,44 +242,44 @@ class Trial:
         elif disagree(checked, ran, files):
             ends = [f"{it.status} {it.printed[-80:]!r}" for it in (checked, ran)]
             wrong.append(f"check ends with {ends[0]}, run with {ends[1]}")
-        self.count(ran, wrong)
+        self.count(ran, bool(wrong))
         if has(b"Save", files):
-            furnish_room(room, files)
+            trials.furnish(room, files)
         for it in wrong:
             kept = tempfile.mkdtemp(prefix="lab-mangled-")
             shutil.copytree(room, kept, dirs_exist_ok=True)
-            print(f"{laboratory.name}: byte {place} of {file} {way}: lab {' '.join(run)} in {kept}: {it}", flush=True)
-        put(room, file, laboratory.files[file])
+            said = " ".join(laboratory.words)
+            print(f"{laboratory.name}: byte {place} of {file} {way}: lab {said} in {kept}: {it}", flush=True)
+        trials.put(room, {file: laboratory.files[file]})
 
-    def count(self, ran: Answer, wrong: List[str]) -> None:
+    def count(self, ran: Answer, is_wrong: bool) -> None:
         with self.lock:
             self.tried += 1
             self.went_on += ran.status is None
-            self.wrong += bool(wrong)
-            cause = ran.refusal[3].decode() if ran.refusal else ran.status
-            self.statuses[cause] = self.statuses.get(cause, 0) + 1
+            self.wrong += is_wrong
+            self.ends[ran.refusal[3].decode() if ran.refusal else ran.status] += 1
+
+    def try_all(self, damages: List[Tuple[Laboratory, str, int, str]]) -> None:
+        with concurrent.futures.ThreadPoolExecutor(trials.lanes()) as workers:
+            for at in range(0, len(damages), BATCH):
+                list(workers.map(lambda it: self.try_one(*it), damages[at : at + BATCH]))
 
 
-def main(count: Optional[int], seed: str) -> int:
+def main(words: List[str]) -> int:
+    end_unless(len(words) < 3, USAGE)
+    count = number_of(words[0], USAGE) if words else None
+    seed = words[1] if words[1:] else "1"
+    program = path_of_program()
     chosen = [(it, *damage) for it in laboratories() for damage in it.places()]
     if count is not None:
         if count > len(chosen):
             end_wrong(f"there are {len(chosen)} such files, and not {count}")
         chosen = [chosen[at] for at in sorted(random.Random(seed).sample(range(len(chosen)), count))]
-    trial = Trial(seed)
-    try:
-        with concurrent.futures.ThreadPoolExecutor(len(os.sched_getaffinity(0))) as workers:
-            for at in range(0, len(chosen), BATCH):
-                for done in workers.map(lambda it: trial.try_one(*it), chosen[at : at + BATCH]):
-                    assert done is None
-    finally:
-        for room in trial.rooms:
-            shutil.rmtree(room, ignore_errors=True)
+    trials.unwind_at_ends()
+    with Room("lab-mangle-") as room:
+        trial = Trial(program, seed, room.path)
+        trial.try_all(chosen)
     if count is None:
         print(f"{trial.tried} damaged files, {trial.went_on} runs ended after a second, {trial.wrong} answers wrong")
-        print(", ".join(f"{cause}: {number}" for cause, number in sorted(trial.statuses.items(), key=str)))
+        print(", ".join(f"{cause}: {number}" for cause, number in sorted(trial.ends.items(), key=str)))
     return 1 if trial.wrong else 0
-
-
-if __name__ == "__main__":
-    sys.exit(main(COUNT, sys.argv[2] if sys.argv[2:] else "1"))

@@ -26,7 +26,6 @@ import pathlib
 import re
 import shutil
 import subprocess
-import sys
 import tarfile
 import tempfile
 from typing import Dict, List
@@ -36,8 +35,7 @@ from labdev.completions import completion as completion_of_scripts
 from labdev.packed import DATE, Entry, Tree, file_of, files_below, link, put
 from labdev.released import Sums, fault_of, sum_of, sums_kept_with
 from labtools.common.manual import manual_page, page_of_script
-from labtools.common.program import TOP, answer_help, end_with, end_wrong, named_as_installed, names_of_tools
-from labtools.common.program import parser_of, tell
+from labtools.common.program import TOP, end_wrong, named_as_installed, names_of_tools, parser_of, tell
 
 
 PROGRAMS = TOP / "bin/lab", TOP / "crates/lab_cli/out/lab_cli"
@@ -259,8 +257,3 @@ def main(words: List[str]) -> int:
     if "Debian" not in made:
         tell("tools/package: the Debian package is not made, without dpkg-deb")
     return 0
-
-
-if __name__ == "__main__":
-    answer_help(__doc__)
-    end_with(lambda: main(sys.argv[1:]))

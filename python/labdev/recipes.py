@@ -27,7 +27,7 @@ import tempfile
 from typing import Dict, Iterator, List, Optional, Tuple
 
 from labdev.pythons import with_pyelftools
-from labtools.common.program import TOP, answer_help, end_wrong, path_of_program
+from labtools.common.program import TOP, end_wrong, path_of_program
 
 
 MARK = re.compile(r"<!-- (lines of|file|run|do)\b ?(.*?) ?-->")
@@ -172,8 +172,3 @@ def main(documents: List[str]) -> int:
     texts = [text_of(it) for it in documents]
     program = path_of_program()
     return 0 if all([is_so(it, text, program) for it, text in zip(documents, texts)]) else 1
-
-
-if __name__ == "__main__":
-    answer_help(__doc__)
-    sys.exit(main(sys.argv[1:]))

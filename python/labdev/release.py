@@ -8,16 +8,14 @@ Both refuse a program that was not built from the present sources, or that was b
 where the sources of the program have changed, before they land. It ends with 0, with 1 where it refuses or where they
 differ, saying how, and with 2 where it is called otherwise.
 """
-import argparse
 import os
 import pathlib
 import subprocess
-import sys
 import tempfile
+from typing import List
 
-from labtools.common.program import TOP
-from labdev.released import Sums, fault_of, sum_of, sums_kept_with
-
+from labdev.released import Sums, fault_of, sum_of, sum_of_sources, sums_kept_with
+from labtools.common.program import TOP, end_unless, end_wrong
 
 BUILT = TOP / "crates/lab_cli/out/lab_cli"
 RELEASED = TOP / "bin/lab"
@@ -27,11 +25,6 @@ MARK = b"rattle logic="
 
 class Refused(Exception):
     """Why nothing is released, or what differs."""
-
-
-def sum_of_sources() -> str:
-    said = subprocess.run([TOP / "tools/sources"], check=True, stdout=subprocess.PIPE, text=True)
-    return said.stdout.strip()
 
 
 def told(path: pathlib.Path) -> str:
@@ -98,19 +91,9 @@ def compare() -> None:
         raise Refused("bin/lab may not be executed")
 
 
-def main() -> int:
-    form = argparse.RawDescriptionHelpFormatter
-    parser = argparse.ArgumentParser(description=__doc__, formatter_class=form, usage=argparse.SUPPRESS, add_help=False)
-    parser.add_argument("--help", action="help", help=argparse.SUPPRESS)
-    parser.add_argument("--check", action="store_true", help=argparse.SUPPRESS)
-    words = parser.parse_args()
+def main(words: List[str]) -> None:
+    end_unless(words in ([], ["--check"]), "[--check]")
     try:
-        compare() if words.check else release()
+        compare() if words else release()
     except (Refused, OSError, subprocess.CalledProcessError) as fault:
-        print(f"tools/release: {fault}", file=sys.stderr)
-        return 1
-    return 0
-
-
-if __name__ == "__main__":
-    sys.exit(main())
+        end_wrong(fault, 1)

@@ -2,8 +2,11 @@
 from. That of bin/lab has a second line, the sum (sha256) of the program itself, which shows a damaged one."""
 import hashlib
 import pathlib
+import subprocess
 from dataclasses import dataclass
 from typing import Optional
+
+from labtools.common.program import TOP
 
 
 @dataclass(frozen=True)
@@ -16,6 +19,11 @@ class Sums:
     @property
     def text(self) -> str:
         return f"{self.sources}\n{self.program}\n"
+
+
+def sum_of_sources() -> str:
+    """Returns the sum of all present sources of the program."""
+    return subprocess.check_output([str(TOP / "tools/sources")], text=True).strip()
 
 
 def sum_of(program: bytes) -> str:

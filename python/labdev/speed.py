@@ -28,10 +28,9 @@ import sys
 import tempfile
 from typing import Dict, List, Optional, Tuple
 
-from labdev import speed_loads
+from labdev import speed_loads, trials
 from labdev.speed_loads import Load, Run
-from labtools.common.program import answer_help, end_with, found_program, path_of_program
-
+from labtools.common.program import end_wrong, found_program, parser_of, path_of_program
 
 Prices = Dict[str, float]
 # How long a run may take under valgrind, in seconds.
@@ -43,23 +42,25 @@ class Failed(Exception):
     """A run that was not counted: why."""
 
 
-def asked() -> argparse.Namespace:
-    parser = argparse.ArgumentParser(
-        prog="tools/speed", usage=USAGE, description=__doc__, formatter_class=argparse.RawDescriptionHelpFormatter
-    )
-    parser.add_argument("--lab", help=argparse.SUPPRESS)
-    parser.add_argument("--keep", type=pathlib.Path, help=argparse.SUPPRESS)
-    parser.add_argument("--against", type=pathlib.Path, help=argparse.SUPPRESS)
-    parser.add_argument("--list", action="store_true", help=argparse.SUPPRESS)
-    parser.add_argument("names", nargs="*", help=argparse.SUPPRESS)
-    return parser.parse_args()
+def asked(words: List[str]) -> argparse.Namespace:
+    parser = parser_of(__doc__)
+    parser.add_argument("--lab")
+    parser.add_argument("--keep", type=pathlib.Path)
+    parser.add_argument("--against", type=pathlib.Path)
+    parser.add_argument("--list", action="store_true")
+    parser.add_argument("names", nargs="*")
+    return parser.parse_args(words)
+
+
+def program_of_words(given: Optional[str]) -> str:
+    """Returns the program that is given, or else the one that every tool takes."""
+    return found_program(os.path.abspath(given)) if given else path_of_program()
 
 
 def counted(program: str, run: Run) -> Tuple[int, int]:
     """Returns how many machine instructions a run has, and how many units of work."""
     with tempfile.TemporaryDirectory(prefix="lab-speed-") as room:
-        for name, held in run.files.items():
-            (pathlib.Path(room) / name).write_bytes(held)
+        trials.put(room, run.files)
         command = [*CALLGRIND, program, *run.words]
         ran = subprocess.run(command, cwd=room, stdin=subprocess.DEVNULL, capture_output=True, timeout=SECONDS)
     found = re.search(rb"Collected : (\d+)", ran.stderr)
@@ -137,39 +138,26 @@ def earlier_prices(path: Optional[pathlib.Path]) -> Prices:
 def measure(words: argparse.Namespace, loads: List[Load]) -> str:
     """Returns the tables of these workloads."""
     earlier = earlier_prices(words.against)
-    program = found_program(os.path.abspath(words.lab)) if words.lab else path_of_program()
-    prices = price_all(program, loads, words.keep)
+    prices = price_all(program_of_words(words.lab), loads, words.keep)
     tables = [table_of_loops(prices, earlier), table_of_others(loads, prices, earlier)]
     return "\n\n".join("\n".join(table) for table in tables if table)
 
 
-def main() -> int:
-    answer_help(__doc__)
-    words = asked()
+def main(words: List[str]) -> None:
+    said = asked(words)
     try:
-        loads = speed_loads.chosen(words.names)
+        loads = speed_loads.chosen(said.names)
     except KeyError as fault:
-        print(f"tools/speed: no workload has the name {fault.args[0]}: see --list", file=sys.stderr)
-        return 2
-    if words.list:
+        end_wrong(f"no workload has the name {fault.args[0]}: see --list")
+    if said.list:
         print("\n".join(it.name for it in loads))
-        return 0
+        return
     if shutil.which(CALLGRIND[0]) is None:
-        print("tools/speed: valgrind is not installed, by which instructions are counted", file=sys.stderr)
-        return 3
+        end_wrong("valgrind is not installed, by which instructions are counted", 3)
     try:
-        tables = measure(words, loads)
+        tables = measure(said, loads)
     except Failed as fault:
-        print(f"tools/speed: {fault}", file=sys.stderr)
-        return 1
+        end_wrong(fault, 1)
     except (OSError, ValueError, AttributeError) as fault:
-        print(f"tools/speed: {fault}", file=sys.stderr)
-        return 2
+        end_wrong(fault)
     print(tables)
-    return 0
-
-
-USAGE = "tools/speed [--lab PROGRAM] [--keep FILE] [--against FILE] [NAME ..]"
-
-if __name__ == "__main__":
-    end_with(main)

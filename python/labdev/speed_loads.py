@@ -1,5 +1,6 @@
 """The workloads of tools/speed: laboratories of one kind of work each, and how many units of it a run has."""
 import dataclasses
+import functools
 import pathlib
 from typing import Callable, Dict, Iterator, List, Optional, Sequence, Tuple
 
@@ -63,7 +64,10 @@ def listings() -> Dict[str, List[str]]:
     return found
 
 
-PROGRAMS = {name: program_of(lines) for name, lines in listings().items()}
+@functools.lru_cache(maxsize=None)
+def programs() -> Dict[str, Program]:
+    """Returns each program of the file of loops, by its name."""
+    return {name: program_of(lines) for name, lines in listings().items()}
 
 
 @dataclasses.dataclass(frozen=True)
@@ -167,9 +171,9 @@ def run_for(micros: int) -> str:
 def loop(kind: str, form_name: str) -> Load:
     """Returns the workload of a board that runs a loop."""
     form = FORMS[form_name]
-    program = PROGRAMS[f"{kind}/half" if form_name == "half" else kind]
+    program = programs()[f"{kind}/half" if form_name == "half" else kind]
     if form.is_wired:
-        program = program.behind(PROGRAMS["interrupts"])
+        program = program.behind(programs()["interrupts"])
 
     def made(micros: int) -> Run:
         script = [*board(0, form), run_for(micros)]
@@ -182,7 +186,7 @@ def loops() -> Iterator[Load]:
     """The workloads of single boards: not all loops have all forms."""
     for kind in KINDS:
         for name, form in FORMS.items():
-            is_half_there = name != "half" or f"{kind}/half" in PROGRAMS
+            is_half_there = name != "half" or f"{kind}/half" in programs()
             # The loop `csr` writes where the handler stands, and atomic operations take their letter.
             is_wired_well = not (form.is_wired and kind == "csr")
             if is_half_there and is_wired_well and (kind != "atomics" or "a" in form.letters):
@@ -205,7 +209,7 @@ def rounds(name: str, kind: str, lines: Sequence[str] = ()) -> Load:
         for number in range(BOARDS):
             script += [*board(number, form), *lines]
         script.append(run_for(micros))
-        return Run(["run", "s.resc"], files(form, PROGRAMS[kind], script), micros * BOARDS)
+        return Run(["run", "s.resc"], files(form, programs()[kind], script), micros * BOARDS)
 
     return Load(f"rounds/{name}", "board and round", made)
 
@@ -224,7 +228,7 @@ def posts(name: str, boards_a_hub: int, delay: str = "0") -> Load:
             script += [*board(number, form), f"connector Connect uart hub{hub}"]
         script.append(run_for(micros))
         slots = micros * form.mips
-        return Run(["run", "s.resc"], files(form, PROGRAMS["posts"], script), BOARDS * sent_in(slots))
+        return Run(["run", "s.resc"], files(form, programs()["posts"], script), BOARDS * sent_in(slots))
 
     return Load(f"posts/{name}", "post", made)
 
@@ -242,7 +246,7 @@ def printed(kind: str) -> Load:
 
     def made(micros: int) -> Run:
         script = [*board(0, form), "showAnalyzer uart", run_for(micros)]
-        return Run(["run", "s.resc"], files(form, PROGRAMS[kind], script), None)
+        return Run(["run", "s.resc"], files(form, programs()[kind], script), None)
 
     return Load(f"print/{kind}", "byte of log", made)
 

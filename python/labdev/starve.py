@@ -14,26 +14,17 @@ by which requests are counted and one is refused. With LAB set that program is r
 wrong, with 1 where something was, and with 2 where its words are wrong: FIRST is a number from 1 on.
 """
 import concurrent.futures
-
-
-import os
-import shutil
+import dataclasses
 import struct
 import subprocess
-import sys
 import tempfile
+from typing import List
 
-from typing import Dict, List, Optional
+from labdev import mangle, trials
+from labdev.cases import Files
+from labdev.trials import Ended
+from labtools.common.program import TOP, end_unless, end_wrong, number_of, path_of_program
 
-from labdev import mangle
-from labtools.common.program import TOP, answer_help, end_unless, number_of, path_of_program
-
-
-answer_help(__doc__)
-end_unless(len(sys.argv) < 3, "[FIRST]")
-FIRST = number_of(sys.argv[1], "[FIRST]") if sys.argv[1:] else 1000
-PROGRAM = path_of_program()
-SECONDS = 60
 STEP = 100
 CASES = (
     ("first_letter", ["run", "reached.resc"]),
@@ -108,71 +99,80 @@ def built(room: str) -> str:
     """Returns the library that counts requests, made in this folder."""
     with open(f"{room}/starve.c", "w", encoding="utf-8") as file:
         file.write(SOURCE)
-    subprocess.run(["cc", "-O2", "-shared", "-fPIC", "-o", f"{room}/starve.so", f"{room}/starve.c"], check=True)
+    made = subprocess.run(["cc", "-O2", "-shared", "-fPIC", "-o", f"{room}/starve.so", f"{room}/starve.c"])
+    if made.returncode != 0:
+        end_wrong("cc has not made the library that counts requests", 1)
     return f"{room}/starve.so"
 
 
-Files = Dict[str, bytes]
-
-
+@dataclasses.dataclass(frozen=True)
 class Answer:
-    """How a run has ended, or None where it went on, what it has printed, how many requests for memory there were, how
-    many blocks were not freed, and which files stand in its folder then."""
+    """How a run has ended, how many requests for memory there were, how many blocks were not freed, and which files
+    stand in its folder then."""
 
-    status: Optional[int]
-    printed: bytes
-
-    def __init__(self, library: str, files: Files, words: List[str], number: int = 0) -> None:
-        with tempfile.TemporaryDirectory(prefix="lab-starve-") as room, tempfile.NamedTemporaryFile() as counts:
-            mangle.furnish_room(room, files)
-            counts.write(bytes(16))
-            counts.flush()
-            settings = {"LD_PRELOAD": library, "STARVE": str(number), "STARVE_COUNTS": counts.name}
-            how = {"stdin": subprocess.DEVNULL, "capture_output": True, "timeout": SECONDS, "env": settings}
-            try:
-                ran = subprocess.run([PROGRAM, *words], cwd=room, **how)
-                self.status, self.printed = ran.returncode, ran.stdout
-            except subprocess.TimeoutExpired as late:
-                self.status, self.printed = None, late.stdout or b""
-            counts.seek(0)
-            self.requests, self.held = struct.unpack("<QQ", counts.read(16))
-            self.files = mangle.files_in(room)
+    ended: Ended
+    requests: int
+    held: int
+    files: Files
 
     def is_as(self, whole: "Answer") -> bool:
-        return (self.status, self.printed, self.files) == (whole.status, whole.printed, whole.files)
+        return (self.ended, self.files) == (whole.ended, whole.files)
 
     def is_well(self, whole: "Answer", before: Files) -> bool:
-        is_front = self.status == 1 and whole.printed.startswith(self.printed)
+        is_front = self.ended.status == 1 and whole.ended.printed.startswith(self.ended.printed)
         return (self.is_as(whole) or is_front) and self.files in (before, whole.files) and self.held <= whole.held
 
 
-def starve(library: str, name: str, words: List[str], first: int) -> bool:
-    """Makes the runs of a laboratory. Returns whether all were well."""
-    laboratory = next(it for it in mangle.of_case(f"{TOP}/cases/{name}.case") if words[1] in it.files)
-    whole = Answer(library, laboratory.files, words)
-    last = whole.requests
-    numbers = [*range(1, min(first, last) + 1), *range(first + STEP, last + 1, STEP)]
-    with concurrent.futures.ThreadPoolExecutor(len(os.sched_getaffinity(0))) as lanes:
-        answers = list(lanes.map(lambda it: Answer(library, laboratory.files, words, it), numbers))
-    wrong = [(number, it) for number, it in zip(numbers, answers) if not it.is_well(whole, laboratory.files)]
-    for number, it in wrong:
-        changed = sorted(file for file in it.files if it.files[file] != laboratory.files.get(file))
-        end = f"ended with {it.status}, {it.printed[-80:]!r}, {it.held} blocks not freed and {changed} made"
-        print(f"{name}: {' '.join(words)}: request {number} refused: {end}")
-    same = sum(it.is_as(whole) for it in answers)
-    ends = f"{same} ended as without, {len(answers) - same} otherwise; blocks not freed without: {whole.held}"
-    print(f"{name}: {' '.join(words)}: {last} requests; of {len(answers)} runs {ends}")
-    return not wrong
+@dataclasses.dataclass(frozen=True)
+class Starved:
+    """Runs over files, with a library that counts their requests for memory, and refuses one."""
+
+    program: str
+    library: str
+    files: Files
+    words: List[str]
+
+    def answer(self, number: int = 0) -> Answer:
+        """Makes a run to which the request of this number is refused, or none."""
+        with tempfile.TemporaryDirectory(prefix="lab-starve-") as room, tempfile.NamedTemporaryFile() as counts:
+            trials.put(room, self.files)
+            counts.write(bytes(16))
+            counts.flush()
+            settings = {"LD_PRELOAD": self.library, "STARVE": str(number), "STARVE_COUNTS": counts.name}
+            ended = trials.run([self.program, *self.words], room, env=settings)
+            counts.seek(0)
+            requests, held = struct.unpack("<QQ", counts.read(16))
+            return Answer(Ended(ended.status, ended.printed), requests, held, trials.files_in(room))
+
+    def try_all(self, name: str, first: int) -> bool:
+        """Makes the runs, tells how they end, and returns whether all were well."""
+        whole = self.answer()
+        last = whole.requests
+        numbers = [*range(1, min(first, last) + 1), *range(first + STEP, last + 1, STEP)]
+        with concurrent.futures.ThreadPoolExecutor(trials.lanes()) as lanes:
+            answers = list(lanes.map(self.answer, numbers))
+        wrong = [(number, it) for number, it in zip(numbers, answers) if not it.is_well(whole, self.files)]
+        said = f"{name}: {' '.join(self.words)}"
+        for number, it in wrong:
+            changed = sorted(file for file in it.files if it.files[file] != self.files.get(file))
+            end = f"ended with {it.ended.status}, {it.ended.printed[-80:]!r}, {it.held} blocks not freed"
+            print(f"{said}: request {number} refused: {end} and {changed} made")
+        same = sum(it.is_as(whole) for it in answers)
+        ends = f"{same} ended as without, {len(answers) - same} otherwise; blocks not freed without: {whole.held}"
+        print(f"{said}: {last} requests; of {len(answers)} runs {ends}")
+        return not wrong
 
 
-def main() -> int:
-    room = tempfile.mkdtemp(prefix="lab-starve-")
-    try:
+def main(words: List[str]) -> int:
+    end_unless(len(words) < 2, "[FIRST]")
+    first = number_of(words[0], "[FIRST]") if words else 1000
+    program = path_of_program()
+    trials.unwind_at_ends()
+    is_well = True
+    with tempfile.TemporaryDirectory(prefix="lab-starve-") as room:
         library = built(room)
-        return 0 if all([starve(library, *case, FIRST) for case in CASES]) else 1
-    finally:
-        shutil.rmtree(room)
-
-
-if __name__ == "__main__":
-    sys.exit(main())
+        for name, asked in CASES:
+            case = mangle.of_case(f"{TOP}/cases/{name}.case", program)
+            laboratory = next(it for it in case if asked[1] in it.files)
+            is_well = Starved(program, library, laboratory.files, asked).try_all(name, first) and is_well
+    return 0 if is_well else 1

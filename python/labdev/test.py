@@ -9,10 +9,9 @@ with one, two and eight workers, ./lab and the scripts of tools/, damaged files,
 It proves nothing: .ci/run does. With LAB set that program is tried, else the one that ./lab runs, which is built first
 where it has to be. It prints how far it is, what a test that has failed says, and what another one passes over (its
 lines that begin so), since a program is not installed that it needs, or root may do all. The last line is `N passed, M
-failed`. It ends with 0, with 1 where a test has failed, or where bin/lab is to be tried and has not the sum that is kept
-with it, and with 2 where it is called otherwise or no test's name has one of the words.
+failed`. It ends with 0, with 1 where a test has failed, or where bin/lab is to be tried and has not the sum that is
+kept with it, and with 2 where it is called otherwise or no test's name has one of the words.
 """
-import argparse
 import concurrent.futures
 import dataclasses
 import json
@@ -25,9 +24,9 @@ import threading
 import time
 from typing import Dict, List, Optional
 
+from labdev import trials
 from labdev.released import fault_of
-from labtools.common.program import TOP, drop_output, end_with, path_of_program
-
+from labtools.common.program import TOP, drop_output, parser_of, path_of_program
 
 RELEASED = TOP / "bin/lab"
 # What a test may take at most, and after how many seconds it is told again how far they are.
@@ -35,7 +34,6 @@ SECONDS = 900
 TOLD_EACH = 10
 # How long each test took the last time: the longest begin first.
 TIMES = TOP / "out/test.times"
-PARTS_OF_CHECK = "expect", "lab", "images", "snapshots", "workers", "passed", "build", "index", "release", "start"
 # Of how many damaged files each of these tests tries some, each from a seed of its own.
 DAMAGED = 4, 100
 
@@ -72,9 +70,7 @@ def tests_of_cases() -> List[Test]:
 
 def tests_of_tools() -> List[Test]:
     """Returns the tests of ./lab and of the scripts of tools/."""
-    tests = []
-    if (TOP / "tools/check").exists():
-        tests += [Test(f"check/{it}", ["tools/check", it], 5.0) for it in PARTS_OF_CHECK]
+    tests: List[Test] = []
     for name, seconds in ("edges", 5.0), ("cuts", 60.0):
         if (TOP / "tools" / name).exists():
             tests.append(Test(f"tools/{name}", [f"tools/{name}"], seconds))
@@ -244,39 +240,35 @@ def try_all(tests: List[Test], runs: Runs) -> int:
     return progress.failed
 
 
-def read_words() -> argparse.Namespace:
-    form = argparse.RawDescriptionHelpFormatter
-    parser = argparse.ArgumentParser(description=__doc__, formatter_class=form, usage=argparse.SUPPRESS, add_help=False)
-    parser.add_argument("--help", action="help", help=argparse.SUPPRESS)
-    parser.add_argument("--list", action="store_true", help=argparse.SUPPRESS)
-    parser.add_argument("--released", action="store_true", help=argparse.SUPPRESS)
-    parser.add_argument("names", nargs="*", help=argparse.SUPPRESS)
-    return parser.parse_args()
-
-
-def main() -> int:
-    words = read_words()
-    tests = [it for it in all_tests(words.released) if not words.names or any(name in it.name for name in words.names)]
-    idle = [word for word in words.names if not any(word in it.name for it in tests)]
+def tests_of_words(words: List[str], is_released: bool) -> List[Test]:
+    """Returns the tests whose names have one of the words, or all, and ends the script where a word finds none."""
+    every = all_tests(is_released)
+    idle = [word for word in words if not any(word in it.name for it in every)]
+    for word in idle:
+        print(f"./test: no test's name has the word {word}: --list prints the names", file=sys.stderr)
     if idle:
-        print(
-            *(f"./test: no test's name has the word {word}: --list prints the names" for word in idle),
-            sep="\n",
-            file=sys.stderr,
-        )
-        return 2
-    if words.list:
-        end_with(lambda: print(*(it.name for it in tests), sep="\n"))
+        sys.exit(2)
+    return [it for it in every if not words or any(word in it.name for word in words)]
+
+
+def main(words: List[str]) -> int:
+    parser = parser_of(__doc__)
+    parser.add_argument("--list", action="store_true")
+    parser.add_argument("--released", action="store_true")
+    parser.add_argument("names", nargs="*")
+    asked = parser.parse_args(words)
+    tests = tests_of_words(asked.names, asked.released)
+    if asked.list:
+        print(*(it.name for it in tests), sep="\n")
+        return 0
     program = path_of_program()
     fault = fault_of(RELEASED) if RELEASED.exists() and RELEASED.samefile(program) else None
     if fault:
         print(f"./test: {fault}", file=sys.stderr)
         return 1
-    runs = Runs(program)
-    for number in (signal.SIGTERM, signal.SIGHUP):
-        signal.signal(number, lambda told, _: sys.exit(128 + told))
+    trials.unwind_at_ends()
     try:
-        failed = try_all(tests, runs)
+        failed = try_all(tests, Runs(program))
     except KeyboardInterrupt:
         return 130
     except BrokenPipeError:
@@ -284,7 +276,3 @@ def main() -> int:
         return 1
     print(f"{len(tests) - failed} passed, {failed} failed")
     return 1 if failed else 0
-
-
-if __name__ == "__main__":
-    sys.exit(main())

@@ -15,19 +15,16 @@ timed, which takes two minutes. docs/SPEED.md has the figures of one machine.
 It prints a table in Markdown. It ends with 0, with 1 where a run has failed, the logs differ or the table cannot be
 written, and with 2 where its words are wrong or there is no such program.
 """
-import argparse
-import os
-import pathlib
 import resource
 import subprocess
-import sys
 import tempfile
 import time
 from typing import Dict, List, NamedTuple, Tuple
 
-from labdev.speed_loads import BOARDS, PROGRAMS, Form, Run, board, files, run_for, time_text
-from labtools.common.program import answer_help, end_with, found_program, path_of_program
-
+from labdev import trials
+from labdev.speed import program_of_words
+from labdev.speed_loads import BOARDS, Form, Run, board, files, programs, run_for, time_text
+from labtools.common.program import end_wrong, parser_of
 
 WORKERS = 1, 2, 4, 8
 # How long a run may take, in seconds.
@@ -52,18 +49,20 @@ def boards(kind: str, quantum: int, micros: int, awake: int = BOARDS, mips: int 
     script = [f'emulation SetGlobalQuantum "{time_text(quantum)}"']
     for number in range(BOARDS):
         script += [*board(number, form), *([HALTED] if number >= awake else [])]
-    return Run(["run", "s.resc"], files(form, PROGRAMS[kind], [*script, run_for(micros)]), None)
+    return Run(["run", "s.resc"], files(form, programs()[kind], [*script, run_for(micros)]), None)
 
 
-RUNS: Dict[str, Run] = {
-    "1ms": boards("additions", 1_000, 100_000),
-    "100us": boards("additions", 100, 100_000),
-    "10us": boards("additions", 10, 100_000),
-    "gen": Run(["gen", "7", str(BOARDS)], {}, None),
-    "two-awake": boards("additions", 1_000, 1_000_000, awake=2),
-    "asleep": boards("waits", 1_000, 1_000_000, mips=1),
-    "halted": boards("additions", 1_000, 1_000_000, awake=0),
-}
+def runs() -> Dict[str, Run]:
+    """Returns the runs that are timed, by their names."""
+    return {
+        "1ms": boards("additions", 1_000, 100_000),
+        "100us": boards("additions", 100, 100_000),
+        "10us": boards("additions", 10, 100_000),
+        "gen": Run(["gen", "7", str(BOARDS)], {}, None),
+        "two-awake": boards("additions", 1_000, 1_000_000, awake=2),
+        "asleep": boards("waits", 1_000, 1_000_000, mips=1),
+        "halted": boards("additions", 1_000, 1_000_000, awake=0),
+    }
 
 
 def timed(program: str, words: List[str], room: str) -> Tuple[Times, bytes]:
@@ -83,8 +82,7 @@ def least(program: str, run: Run, times: int) -> List[Times]:
     found: List[List[Times]] = [[] for _ in WORKERS]
     logs = set()
     with tempfile.TemporaryDirectory(prefix="lab-workers-") as room:
-        for name, held in run.files.items():
-            (pathlib.Path(room) / name).write_bytes(held)
+        trials.put(room, run.files)
         for _ in range(times):
             for row, workers in zip(found, WORKERS):
                 took, log = timed(program, [*run.words, "--workers", str(workers)], room)
@@ -95,37 +93,29 @@ def least(program: str, run: Run, times: int) -> List[Times]:
     return [min(row) for row in found]
 
 
-def main() -> int:
-    answer_help(__doc__)
-    usage = "tools/workers [--lab PROGRAM] [--times N] [NAME ..]"
-    form = argparse.RawDescriptionHelpFormatter
-    parser = argparse.ArgumentParser(prog="tools/workers", usage=usage, description=__doc__, formatter_class=form)
-    parser.add_argument("--lab", help=argparse.SUPPRESS)
-    parser.add_argument("--times", type=int, default=5, help=argparse.SUPPRESS)
-    parser.add_argument("--list", action="store_true", help=argparse.SUPPRESS)
-    parser.add_argument("names", nargs="*", help=argparse.SUPPRESS)
-    words = parser.parse_args()
-    for name in words.names:
-        if name not in RUNS:
+def main(words: List[str]) -> None:
+    parser = parser_of(__doc__)
+    parser.add_argument("--lab")
+    parser.add_argument("--times", type=int, default=5)
+    parser.add_argument("--list", action="store_true")
+    parser.add_argument("names", nargs="*")
+    asked = parser.parse_args(words)
+    every = runs()
+    for name in asked.names:
+        if name not in every:
             parser.error(f"no run has the name {name}: see --list")
-    if words.times < 1:
+    if asked.times < 1:
         parser.error("a run is made once at least")
-    if words.list:
-        print("\n".join(RUNS))
-        return 0
-    program = found_program(os.path.abspath(words.lab)) if words.lab else path_of_program()
+    if asked.list:
+        print("\n".join(every))
+        return
+    program = program_of_words(asked.lab)
     print("| Run | " + " | ".join(f"{it} worker{'s' * (it > 1)}" for it in WORKERS) + " |")
     print("|---" * (len(WORKERS) + 1) + "|")
-    for name in words.names or RUNS:
+    for name in asked.names or every:
         try:
-            took = least(program, RUNS[name], words.times)
+            took = least(program, every[name], asked.times)
         except (Failed, subprocess.TimeoutExpired) as fault:
-            print(f"tools/workers: {name}: {fault}", file=sys.stderr)
-            return 1
+            end_wrong(f"{name}: {fault}", 1)
         cells = [f"{it.clock:.3f} ({it.processors:.3f})" for it in took]
         print(f"| {name} | " + " | ".join(cells) + " |", flush=True)
-    return 0
-
-
-if __name__ == "__main__":
-    end_with(main)

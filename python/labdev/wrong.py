@@ -15,13 +15,11 @@ import pathlib
 import re
 import shutil
 import subprocess
-import sys
 import tempfile
 from typing import List, Set
 
 from labdev.wrong_bodies import WrongBodies, crates_with_wrong_bodies
-from labtools.common.program import TOP, answer_help, end_unless, end_with, end_wrong
-
+from labtools.common.program import TOP, end_unless, end_wrong
 
 USAGE = "NAME .. | --stale | --all | --check"
 # What rt says of an edit that the prover has refused.
@@ -108,16 +106,10 @@ def check() -> int:
     return 0
 
 
-def main() -> int:
-    words = sys.argv[1:]
+def main(words: List[str]) -> int:
     is_word = words in (["--all"], ["--stale"], ["--check"])
     end_unless(bool(words) and (is_word or not any(it.startswith("-") for it in words)), USAGE)
     if words == ["--check"]:
         return check()
     crates = asked_for(words)
     return try_edits(crates) if crates else 0
-
-
-if __name__ == "__main__":
-    answer_help(__doc__)
-    end_with(main)

@@ -1,4 +1,5 @@
-"""The wrong bodies that stand beside a crate in its folder wrong/, and what is kept of the last time that they were tried."""
+"""The wrong bodies that stand beside a crate in its folder wrong/, and what is kept of the last time that they were
+tried."""
 import dataclasses
 import hashlib
 import os
@@ -35,7 +36,8 @@ class WrongBodies:
         return sorted((self.folder / "wrong").glob("*.edit"))
 
     def sums(self) -> Dict[str, str]:
-        """Returns the sum of the crate's own sources and of its line in crates.txt, and that of each edit by its name."""
+        """Returns the sum of the crate's own sources and of its line in crates.txt, and that of each edit by its
+        name."""
         listed = (self.folder.parent.parent / "crates.txt").read_text(encoding="utf-8")
         line = re.findall(rf"(?m)^{re.escape(self.name)}\b.*$", listed)
         said = [f"{sum_of(it.read_bytes())} {it.relative_to(self.folder)}" for it in files_of(self.folder)]

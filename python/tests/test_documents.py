@@ -1,12 +1,7 @@
 """Tries that what docs/ names stands in the sources: the contracts of docs/PROMISES.md, the wrong bodies of the page on
 tests, the files and crates of docs/ARCHITECTURE.md, the lemmas that are cited above their crate, and quoted lines. That
-a number which stands in several crates is one number. And that lines of the crates have at most 120 columns.
-
-    python/tests/test_documents.py        all of it
-    python/tests/test_documents.py NAME   the tests of that class, or that one, as unittest names them
-
-It reads texts alone and needs no program. It ends with 0, or with 1 where something is named that is not there.
-"""
+a number which stands in several crates is one number. And that lines of the crates have at most 120 columns. It reads
+texts alone and needs no program."""
 import collections
 import itertools
 import pathlib
@@ -15,18 +10,21 @@ import subprocess
 import unittest
 from typing import Dict, Iterator, List, Set, Tuple
 
-from labtools.common.program import TOP
 from labdev.contracts import Crate, clauses_of, crates_below, named
 from labtools.common.manual import rows_after
+from labtools.common.program import TOP
 
-
-CRATES: Dict[str, Crate] = crates_below(TOP)
 NAME = re.compile(r"`((?:\w+::)?\w+)`")
 TESTING = "docs/TESTING.md"
 GUIDE = "docs/DEVELOPING.md"
 MEASURED = "docs/MEASURED.md"
 # What gives no answer, and nothing is promised of it.
 NO_ANSWER = {"Gate::enter"}
+
+
+def crates() -> Dict[str, Crate]:
+    """Returns the crates of the repository, which are read once."""
+    return crates_below(TOP)
 
 
 def text_of(path: str) -> str:
@@ -39,7 +37,7 @@ def names_in(cell: str) -> List[str]:
 
 
 def is_defined(name: str) -> bool:
-    return any(name in crate.types or name in crate.definitions for crate in CRATES.values())
+    return any(name in crate.types or name in crate.definitions for crate in crates().values())
 
 
 def is_type(name: str) -> bool:
@@ -57,24 +55,25 @@ def filled(rows: List[List[str]]) -> Iterator[List[str]]:
 def wrong_contracts(crate: str, cell: str) -> List[str]:
     """Returns the names of a cell that are no function of the crate or of one that the cell names, no type, and no
     clause of a function before them."""
-    wrong, clauses = [], set()
-    crates = {crate, *names_in(cell)} & set(CRATES)
+    wrong: List[str] = []
+    clauses: Set[str] = set()
+    among = {crate, *names_in(cell)} & set(crates())
     for name in names_in(cell):
-        functions = [it for it in named(CRATES, name) if it.crate in crates]
-        if name in clauses or name in CRATES or is_type(name):
+        functions = [it for it in named(crates(), name) if it.crate in among]
+        if name in clauses or name in crates() or is_type(name):
             continue
-        clauses |= clauses_of(CRATES, functions)
+        clauses |= clauses_of(crates(), functions)
         wrong += [] if functions else [name]
     return wrong
 
 
 class Names(unittest.TestCase):
     def test_reads_functions_with_their_owners_and_clauses(self) -> None:
-        put = named(CRATES, "DiskStore::put")
+        put = named(crates(), "DiskStore::put")
         self.assertEqual([(it.crate, sorted(it.owners)) for it in put], [("lab_io", ["DiskStore", "Store"])])
-        self.assertTrue({"counted", "failed", "kept"} <= clauses_of(CRATES, put))
-        self.assertNotIn("fails", clauses_of(CRATES, put))
-        self.assertEqual([it.crate for it in named(CRATES, "lab_encoding::load")], ["lab_encoding"])
+        self.assertTrue({"counted", "failed", "kept"} <= clauses_of(crates(), put))
+        self.assertNotIn("fails", clauses_of(crates(), put))
+        self.assertEqual([it.crate for it in named(crates(), "lab_encoding::load")], ["lab_encoding"])
 
     def test_finds_what_is_not_there(self) -> None:
         cell = "`run_lab`, `complete`, `sideways`, `Lab::fly`"
@@ -85,7 +84,9 @@ class Names(unittest.TestCase):
 
 
 class Promises(unittest.TestCase):
-    document = text_of("docs/PROMISES.md")
+    @property
+    def document(self) -> str:
+        return text_of("docs/PROMISES.md")
 
     def test_each_contract_of_a_crate_is_there(self) -> None:
         rows = list(filled(rows_after(self.document, "| Crate | Promise, in plain words | Contract |")))
@@ -96,7 +97,7 @@ class Promises(unittest.TestCase):
                 self.assertEqual(wrong_contracts(crate.strip("`"), contract), [])
 
     def test_each_clause_of_the_program_is_there(self) -> None:
-        clauses = clauses_of(CRATES, named(CRATES, "run_lab"))
+        clauses = clauses_of(crates(), named(crates(), "run_lab"))
         rows = rows_after(self.document, "| Clause of `run_lab` | Says |")
         told = {name for row in rows for name in names_in(row[0])}
         self.assertEqual(told, clauses)
@@ -106,27 +107,29 @@ class Promises(unittest.TestCase):
         self.assertGreater(len(rows), 90)
         for call, answer, _, clause in rows[:-1]:
             with self.subTest(call=call, answer=answer):
-                functions = [it for name in names_in(call) for it in named(CRATES, name)]
-                self.assertTrue(all(named(CRATES, name) for name in names_in(call)))
-                self.assertEqual(set(names_in(clause)) - clauses_of(CRATES, functions), set())
+                functions = [it for name in names_in(call) for it in named(crates(), name)]
+                self.assertTrue(all(named(crates(), name) for name in names_in(call)))
+                self.assertEqual(set(names_in(clause)) - clauses_of(crates(), functions), set())
 
     def test_each_name_of_the_prose_is_there(self) -> None:
-        clauses = {clause for crate in CRATES.values() for it in crate.functions for clause in it.clauses}
+        clauses = {clause for crate in crates().values() for it in crate.functions for clause in it.clauses}
         for name in re.findall(r"`((?:[A-Z]\w*::)?[a-z0-9]\w*_\w+)`", self.document):
             with self.subTest(name=name):
                 kit = name in ("atomic_table", "crossbeam_queue")
-                there = kit or name in CRATES or name in clauses or is_defined(name) or named(CRATES, name)
+                there = kit or name in crates() or name in clauses or is_defined(name) or named(crates(), name)
                 self.assertTrue(there, name)
 
     def test_each_crate_of_the_program_has_a_row(self) -> None:
         rows = rows_after(self.document, "| Crate | Promise, in plain words | Contract |")
         told = {name for row in rows for name in names_in(row[0])}
-        tests = {name for name in CRATES if name.endswith("_tests")}
-        self.assertEqual(told, set(CRATES) - tests - {"sample_boards", "lab_speed"})
+        tests = {name for name in crates() if name.endswith("_tests")}
+        self.assertEqual(told, set(crates()) - tests - {"sample_boards", "lab_speed"})
 
 
 class WrongBodies(unittest.TestCase):
-    rows = rows_after(text_of(TESTING), "| Body | Refused in | By |")
+    @property
+    def rows(self) -> List[List[str]]:
+        return rows_after(text_of(TESTING), "| Body | Refused in | By |")
 
     def test_each_edit_is_there(self) -> None:
         self.assertGreater(len(self.rows), 60)
@@ -134,11 +137,11 @@ class WrongBodies(unittest.TestCase):
             if "no clause" in means or "no edit" in means:
                 continue
             with self.subTest(body=body):
-                crates = names_in(where)
+                among = names_in(where)
                 edits = names_in(means)
-                self.assertTrue(crates and edits)
-                self.assertEqual([it for it in edits if not any(it in CRATES[crate].edits for crate in crates)], [])
-                self.assertEqual([it for it in crates if not CRATES[it].edits & set(edits)], [])
+                self.assertTrue(among and edits)
+                self.assertEqual([it for it in edits if not any(it in crates()[crate].edits for crate in among)], [])
+                self.assertEqual([it for it in among if not crates()[it].edits & set(edits)], [])
 
     def test_each_test_is_there(self) -> None:
         tests = paths = 0
@@ -146,16 +149,16 @@ class WrongBodies(unittest.TestCase):
             for test, crate in re.findall(r"`(\w+)`(?: \(|, `\w+` \()`(\w+_tests)`", means):
                 tests += 1
                 with self.subTest(body=body, test=test):
-                    self.assertIn(test, {it.name for it in CRATES[crate].functions})
-            for path in re.findall(r"`(tools/[\w/]+)`", means):
+                    self.assertIn(test, {it.name for it in crates()[crate].functions})
+            for path in re.findall(r"`((?:tools|python)/[\w/.]+)`", means):
                 paths += 1
                 self.assertTrue((TOP / path).exists(), path)
         self.assertGreater(tests, 5)
         self.assertGreater(paths, 0)
 
     def test_what_no_clause_refuses_is_shown_by_something(self) -> None:
-        tests = {it.name for name, crate in CRATES.items() if name.endswith("_tests") for it in crate.functions}
-        edits = {edit for crate in CRATES.values() for edit in crate.edits}
+        tests = {it.name for name, crate in crates().items() if name.endswith("_tests") for it in crate.functions}
+        edits = {edit for crate in crates().values() for edit in crate.edits}
         found = 0
         for body, where, means in self.rows:
             if "no clause" in means:
@@ -167,14 +170,16 @@ class WrongBodies(unittest.TestCase):
 
 
 class Laws(unittest.TestCase):
-    rows = rows_after(text_of(TESTING), "| Law | What its premises say | Where it is so |")
+    @property
+    def rows(self) -> List[List[str]]:
+        return rows_after(text_of(TESTING), "| Law | What its premises say | Where it is so |")
 
     def test_each_law_of_the_crates_of_laws_that_has_a_premise_is_there(self) -> None:
         laws = {name for row in self.rows for name in names_in(row[0])}
-        stated = {it.name for name in CRATES if name.endswith("_laws") for it in CRATES[name].functions}
+        stated = {it.name for name in crates() if name.endswith("_laws") for it in crates()[name].functions}
         # These two hold of every run.
         self.assertEqual(stated - laws, {"places_rise", "saves_are_kept"})
-        self.assertEqual([it for it in laws if not named(CRATES, it)], [])
+        self.assertEqual([it for it in laws if not named(crates(), it)], [])
 
     def test_each_case_is_there(self) -> None:
         paths = [path for row in self.rows for path in re.findall(r"`(cases/\w+\.case)`", row[2])]
@@ -186,9 +191,9 @@ class Unstated(unittest.TestCase):
     def test_functions_without_a_clause_are_those_of_the_table(self) -> None:
         rows = rows_after(text_of(TESTING), "| Function | In | Why |")
         told = {(crate, name) for row in rows for crate in names_in(row[1]) for name in names_in(row[0])}
-        promising = {it for it in CRATES if not it.endswith("_tests")} - {"lab_speed", "sample_boards"}
+        promising = {it for it in crates() if not it.endswith("_tests")} - {"lab_speed", "sample_boards"}
         found = set()
-        for function in [it for crate in promising for it in CRATES[crate].functions]:
+        for function in [it for crate in promising for it in crates()[crate].functions]:
             name = "::".join([*function.owners, function.name])
             if not function.is_stated and len(function.owners) < 2 and name not in NO_ANSWER:
                 found.add((function.crate, name))
@@ -203,7 +208,7 @@ def lemmas_cited_above() -> Dict[str, Set[str]]:
         if path.suffix not in (".antt", ".rt") or "out" in path.relative_to(TOP).parts[:3]:
             continue
         for crate, file in re.findall(r"\b(\w+)(?:\.|::)proofs(?:\.|::)(\w+)", path.read_text(encoding="utf-8")):
-            if crate in CRATES and crate != own:
+            if crate in crates() and crate != own:
                 cited[crate].add(file)
     return cited
 
@@ -269,7 +274,9 @@ class Pictures(unittest.TestCase):
 
 
 class Architecture(unittest.TestCase):
-    document = text_of("docs/ARCHITECTURE.md")
+    @property
+    def document(self) -> str:
+        return text_of("docs/ARCHITECTURE.md")
 
     def test_each_file_is_there(self) -> None:
         self.assertEqual(missing_files("`board/specs/Slot.antt`, `Stretch.antt`, `Nowhere.antt`"), ["Nowhere.antt"])
@@ -281,7 +288,7 @@ class Architecture(unittest.TestCase):
     def test_each_crate_stands_in_the_tree(self) -> None:
         tree = self.document.split("\n## ")[1].split("<!-- run tools/crates -->")[0]
         told = collections.Counter(re.findall(r"(?m)^    +(\w+)  ?", tree))
-        self.assertEqual({name for name, count in told.items() if name in CRATES and count == 1}, set(CRATES))
+        self.assertEqual({name for name, count in told.items() if name in crates() and count == 1}, set(crates()))
 
 
 def constant(path: str) -> int:

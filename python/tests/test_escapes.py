@@ -1,11 +1,8 @@
-"""Tries which signs of a name or a text are not printed as they are, by python/labtools/common/escapes.py. It ends with 0, or with 1
-where something is wrong.
-"""
+"""Tries which signs of a name or a text are not printed as they are, by labtools/common/escapes.py."""
 import os
 import unittest
 
 from labtools.common import escapes
-
 
 SHOWN = {
     "tests/größe 1.resc": "tests/größe 1.resc",

@@ -1,6 +1,6 @@
-"""Tries that ./test and each script of tools/ and tools/tests/ answer --help with their heads, and that ./lab --help
-lists the words and the exits of docs/SCRIPTS.md. It ends with 0, or with 1 where something is wrong.
-"""
+"""Tries that the files of tools/ are what they have to be, that each answers --help with its text, and so do ./test,
+demo/check and cases/check; and that ./lab --help lists the words and the exits of docs/SCRIPTS.md."""
+import ast
 import os
 import pathlib
 import re
@@ -8,39 +8,59 @@ import subprocess
 import unittest
 from typing import List
 
-from labtools.common.program import TOP
 from labtools.common.manual import exits_of, words_of
+from labtools.common.program import TOP
+
+PYTHON = TOP / "python"
 
 
-ENVIRONMENT = {**os.environ, "LAB": "/none"}
+def modules() -> List[str]:
+    """Returns the names of the modules that are tools: those with a function `main`."""
+    found = [it for package in ("labtools", "labdev") for it in (PYTHON / package).glob("*.py")]
+    return sorted(it.stem for it in found if re.search(r"(?m)^def main\(\w+: List\[str\]\)", it.read_text("utf-8")))
 
 
 def scripts() -> List[pathlib.Path]:
-    places = sorted(TOP.glob("tools/*"))
-    tools = [it for it in places if it.is_file() and os.access(it, os.X_OK)]
-    return [TOP / "test", TOP / "demo/check", TOP / "cases/check", *tools]
+    return [TOP / "test", TOP / "demo/check", TOP / "cases/check", *sorted((TOP / "tools").iterdir())]
 
 
-def first_words(script: pathlib.Path) -> str:
-    """Returns the first line of a script's head: of a Python program's first text, or of a shell script's comment."""
-    text = script.read_text(encoding="utf-8")
-    found = re.match(r'#!.*\n(?:"""|# )(.*)\n', text)
-    return found[1].rstrip('"') if found else "a head"
+def text_of(script: pathlib.Path) -> str:
+    """Returns the text of a tool's module, or the first line of a shell script's comment."""
+    if not script.is_symlink():
+        return str(re.findall(r"#!.*\n# (.*)\n", script.read_text("utf-8"))[0])
+    [module] = PYTHON.glob(f"lab*/{script.name}.py")
+    return (ast.get_docstring(ast.parse(module.read_text("utf-8")), clean=False) or "").strip()
 
 
 def answer(script: pathlib.Path) -> "subprocess.CompletedProcess[str]":
-    how = {"stdout": subprocess.PIPE, "stderr": subprocess.STDOUT, "stdin": subprocess.DEVNULL}
-    return subprocess.run([str(script), "--help"], env=ENVIRONMENT, text=True, timeout=60, **how)
+    environment = {**os.environ, "LAB": "/none"}
+    return subprocess.run(
+        [str(script), "--help"],
+        env=environment,
+        text=True,
+        timeout=60,
+        stdin=subprocess.DEVNULL,
+        stdout=subprocess.PIPE,
+        stderr=subprocess.STDOUT,
+    )
 
 
 class Help(unittest.TestCase):
-    def test_each_script_answers_with_its_head(self) -> None:
-        self.assertIn(TOP / "python/tests/test_help.py", scripts())
+    def test_each_tool_is_a_link_to_the_launcher_and_each_link_a_tool(self) -> None:
+        links = [it.name for it in scripts() if it.is_symlink()]
+        self.assertEqual(sorted(links), modules())
+        for script in scripts():
+            with self.subTest(script=script.name):
+                self.assertTrue(script.is_file() and os.access(script, os.X_OK))
+                if script.is_symlink():
+                    self.assertEqual(script.resolve(), PYTHON / "launch.py")
+
+    def test_each_script_answers_with_its_text(self) -> None:
         for script in scripts():
             with self.subTest(script=str(script.relative_to(TOP))):
                 said = answer(script)
                 self.assertEqual(said.returncode, 0, said.stdout)
-                self.assertIn(first_words(script), said.stdout)
+                self.assertTrue(said.stdout.startswith(text_of(script)), said.stdout)
 
     def test_lab_lists_the_words_and_exits_of_the_document(self) -> None:
         said = answer(TOP / "lab").stdout

@@ -1,23 +1,17 @@
 """Looks under valgrind whether the program frees each page of its memories, which no clause says.
 
-    python/tests/test_pages_are_freed.py
-
 Three boards whose memories are empty, three with bytes in four pages each, and the latter taken back from a snapshot:
-no run may leave a block, and each page takes 4 KiB of the heap that valgrind watches. Where valgrind is not there that
-is told in a line. With LAB set that program is run, else the one that ./lab runs. It prints else what is wrong alone,
-and ends with 0 where nothing was, with 1 where something was, and with 2 where it is given words.
-"""
+no run may leave a block, and each page takes 4 KiB of the heap that valgrind watches."""
 import re
 import shutil
 import subprocess
 import tempfile
+import unittest
 from pathlib import Path
-from typing import List, Tuple
+from typing import List
 
 from labtools.common.program import path_of_program
 
-
-PROGRAM = path_of_program()
 SECONDS = 300
 BOARDS = 3
 PAGE = 4096
@@ -36,42 +30,36 @@ def boards(loads: List[str]) -> List[str]:
     return lines
 
 
-def run(room: Path, lines: List[str]) -> Tuple[int, List[str]]:
-    """Runs the program under valgrind: how many bytes it took from the heap, and what is wrong."""
-    (room / "script").write_text("".join(f"{line}\n" for line in lines))
-    checks = ["valgrind", "--leak-check=full", "--show-leak-kinds=all"]
-    command = [*checks, PROGRAM, "run", "script"]
-    ran = subprocess.run(command, cwd=room, stdin=subprocess.DEVNULL, capture_output=True, timeout=SECONDS, check=False)
-    told = ran.stderr.decode(errors="replace")
-    usage = re.search(r"total heap usage: [\d,]+ allocs, [\d,]+ frees, ([\d,]+) bytes allocated", told)
-    is_well = "All heap blocks were freed" in told and "ERROR SUMMARY: 0 errors" in told
-    if ran.returncode != 0 or ran.stdout or usage is None or not is_well:
-        return 0, [f"ended with {ran.returncode} and {ran.stdout!r}:", *lines, told]
-    return int(usage[1].replace(",", "")), []
+class Pages(unittest.TestCase):
+    def setUp(self) -> None:
+        if shutil.which("valgrind") is None:
+            self.skipTest("whether each page is freed, without valgrind")
+        folder = tempfile.TemporaryDirectory(prefix="lab-pages-")
+        self.addCleanup(folder.cleanup)
+        self.room = Path(folder.name)
+        (self.room / "board.repl").write_text(PLATFORM)
+        (self.room / "bytes").write_bytes(b"x" * (PAGE + 1))
 
+    def taken(self, lines: List[str]) -> int:
+        """Runs the program under valgrind, and returns how many bytes it took from the heap."""
+        (self.room / "script").write_text("".join(f"{line}\n" for line in lines))
+        command = ["valgrind", "--leak-check=full", "--show-leak-kinds=all", path_of_program(), "run", "script"]
+        ran = subprocess.run(
+            command, cwd=self.room, stdin=subprocess.DEVNULL, capture_output=True, timeout=SECONDS, check=False
+        )
+        told = ran.stderr.decode(errors="replace")
+        self.assertEqual((ran.returncode, ran.stdout), (0, b""), told)
+        self.assertIn("All heap blocks were freed", told)
+        self.assertIn("ERROR SUMMARY: 0 errors", told)
+        usage = re.search(r"total heap usage: [\d,]+ allocs, [\d,]+ frees, ([\d,]+) bytes allocated", told)
+        assert usage, told
+        return int(usage[1].replace(",", ""))
 
-def wrongs(room: Path) -> List[str]:
-    (room / "board.repl").write_text(PLATFORM)
-    (room / "bytes").write_bytes(b"x" * (PAGE + 1))
-    loads = [f"sysbus LoadBinary @bytes {base}" for base in ("0x80000000", "0x900fe000")]
-    empty, wrong = run(room, boards([]))
-    full, others = run(room, [*boards(loads), "Save @kept"])
-    loaded, rest = run(room, ["Load @kept"])
-    wrong += others + rest
-    for bytes_taken in (full, loaded):
-        if not wrong and bytes_taken < BOARDS * PAGES * PAGE:
-            wrong.append(f"{bytes_taken} bytes were taken from the heap: fewer than the pages have")
-    if not wrong and full < empty + BOARDS * PAGES * PAGE:
-        wrong.append(f"{full} bytes were taken from the heap, and {empty} without pages: the pages were not")
-    return wrong
-
-
-def main() -> int:
-    if shutil.which("valgrind") is None:
-        print("passed over: whether each page is freed, without valgrind")
-        return 0
-    with tempfile.TemporaryDirectory(prefix="lab-pages-") as room:
-        wrong = wrongs(Path(room))
-    for line in wrong:
-        print(f"python/tests/test_pages_are_freed.py: {line}")
-    return 1 if wrong else 0
+    def test_each_page_is_taken_from_the_heap_and_given_back(self) -> None:
+        loads = [f"sysbus LoadBinary @bytes {base}" for base in ("0x80000000", "0x900fe000")]
+        empty = self.taken(boards([]))
+        full = self.taken([*boards(loads), "Save @kept"])
+        loaded = self.taken(["Load @kept"])
+        pages = BOARDS * PAGES * PAGE
+        self.assertGreaterEqual(full, empty + pages)
+        self.assertGreaterEqual(loaded, pages)

@@ -1,17 +1,11 @@
 """Tries tools/recipes on pages of a few lines: that it takes what is so, tells what is not with the line of the
-comment, and passes over what needs a program that is not installed. It needs no program: a stand-in does nothing. It
-ends with 0, or with 1 where something is wrong.
-"""
+comment, and passes over what needs a program that is not installed. It needs no program: a stand-in does nothing."""
 import os
-import pathlib
 import shutil
-import subprocess
-import tempfile
-import unittest
 from typing import Tuple
 
 from labtools.common.program import TOP
-
+from tests.commands import Commands
 
 RIGHT = """# A page
 
@@ -53,21 +47,12 @@ WRONG = (
 )
 
 
-class Recipes(unittest.TestCase):
+class Recipes(Commands):
     def try_page(self, text: str) -> Tuple[int, str, str]:
         """Returns how a run over a page ends, what it prints, and the page's name there."""
-        with tempfile.TemporaryDirectory(prefix="lab-page-") as folder:
-            page = pathlib.Path(folder).resolve() / "page.md"
-            page.write_text(text, encoding="utf-8")
-            ran = subprocess.run(
-                [str(TOP / "tools/recipes"), str(page)],
-                env={**os.environ, "LAB": str(shutil.which("true"))},
-                stdin=subprocess.DEVNULL,
-                stdout=subprocess.PIPE,
-                stderr=subprocess.STDOUT,
-                text=True,
-            )
-            return ran.returncode, ran.stdout, os.path.relpath(page, TOP)
+        self.write("page.md", text)
+        page = self.room / "page.md"
+        return (*self.call(TOP / "tools/recipes", page, LAB=str(shutil.which("true"))), os.path.relpath(page, TOP))
 
     def test_what_is_so_is_taken(self) -> None:
         text = RIGHT.replace("    VERSION\n", f"    {(TOP / 'VERSION').read_text(encoding='utf-8')}")

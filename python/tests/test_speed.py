@@ -1,13 +1,9 @@
 """Tries tools/speed: that its workloads run what they say, and what it makes of counts that a stand-in for valgrind has
-made up. The program is that of the variable LAB, and else ./lab. Without binutils for RISC-V the words of its loops are
-not compared with what an assembler gives, and a line says so.
-
-    python/tests/test_speed.py [NAME ..]
-"""
+made up. Without binutils for RISC-V the words of its loops are not compared with what an assembler gives, and a line
+says so."""
 import json
 import os
 import pathlib
-import shutil
 import re
 import subprocess
 import sys
@@ -15,15 +11,10 @@ import tempfile
 import unittest
 from typing import Dict, List, Tuple
 
-from labtools.common.program import TOP
-from labdev import speed_loads
-from labtools.boards import machine
-from labtools.boards import snapshot
+from labdev import speed_loads, trials
+from labtools.boards import machine, snapshot
+from labtools.common.program import TOP, path_of_program
 
-
-LAB = os.environ.get("LAB", str(TOP / "lab"))
-ASSEMBLER = shutil.which("riscv64-unknown-elf-as"), shutil.which("riscv64-unknown-elf-objcopy")
-HAS_ASSEMBLER = all(ASSEMBLER)
 # What stands in for valgrind: a run has 5,000,000 machine instructions and 7,350 for each microsecond, and prints two
 # bytes for each; `gen` has 148,000,000 and prints nothing.
 VALGRIND = r"""#!/bin/sh
@@ -42,14 +33,20 @@ echo "==1== Collected : $count" >&2
 """
 
 
+def assembler(tool: str) -> str:
+    """Returns the path of a program of binutils for RISC-V, or nothing."""
+    folders = [pathlib.Path(it or ".") for it in os.environ.get("PATH", "").split(os.pathsep)]
+    found = [path for it in folders for path in sorted(it.glob(f"riscv*-{tool}")) if os.access(path, os.X_OK)]
+    return str(found[0]) if found else ""
+
+
 def run_lab(run: speed_loads.Run, *more: str) -> Tuple[int, str]:
     """Makes a run with further lines before and after its last one, and returns how it ends and what it prints."""
     with tempfile.TemporaryDirectory(prefix="lab-tests-speed-") as room:
-        for name, held in run.files.items():
-            (pathlib.Path(room) / name).write_bytes(held)
+        trials.put(room, run.files)
         with (pathlib.Path(room) / "s.resc").open("a") as script:
             script.writelines(f"{line}\n" for line in more)
-        ran = subprocess.run([LAB, *run.words], cwd=room, capture_output=True, text=True, timeout=60)
+        ran = subprocess.run([path_of_program(), *run.words], cwd=room, capture_output=True, text=True, timeout=60)
         return ran.returncode, ran.stdout
 
 
@@ -60,18 +57,20 @@ def shown(run: speed_loads.Run) -> speed_loads.Run:
 
 
 class Workloads(unittest.TestCase):
-    @unittest.skipUnless(HAS_ASSEMBLER, "the words of the loops, without an assembler for RISC-V")
     def test_the_words_are_those_of_an_assembler(self) -> None:
+        assemble, copy = assembler("as"), assembler("objcopy")
+        if not (assemble and copy):
+            self.skipTest("the words of the loops, without an assembler for RISC-V")
         for name, lines in speed_loads.listings().items():
             with self.subTest(name=name), tempfile.TemporaryDirectory(prefix="lab-tests-speed-") as room:
                 march = "rv32imac_zicsr" if name.endswith("/half") else "rv32ima_zicsr"
                 text = [re.sub(r"^ +[0-9a-f]+ +", "", line) for line in lines]
                 (pathlib.Path(room) / "s").write_text(".option norelax\n" + "\n".join(text) + "\n")
-                words = [str(ASSEMBLER[0]), f"-march={march}", "-mabi=ilp32", "-o", "o", "s"]
+                words = [assemble, f"-march={march}", "-mabi=ilp32", "-o", "o", "s"]
                 subprocess.run(words, cwd=room, check=True)
-                subprocess.run([str(ASSEMBLER[1]), "-O", "binary", "o", "b"], cwd=room, check=True)
+                subprocess.run([copy, "-O", "binary", "o", "b"], cwd=room, check=True)
                 image = (pathlib.Path(room) / "b").read_bytes()
-                self.assertEqual(image, speed_loads.PROGRAMS[name].image)
+                self.assertEqual(image, speed_loads.programs()[name].image)
 
     def test_a_loop_of_words_is_parted_where_it_begins(self) -> None:
         lines = ["    00000097  auipc x1, 0", "loop:", ".rept 2", "    a009  c.j .+2", ".endr", "    bfcd  c.j loop"]
@@ -92,7 +91,7 @@ class Workloads(unittest.TestCase):
                 if form.is_wired or kind in speed_loads.JUMPING:
                     self.assertTrue(all(0 <= it < len(run.files["program"]) for it in places), places)
                 else:
-                    program = speed_loads.PROGRAMS[f"{kind}/half" if name == "half" else kind]
+                    program = speed_loads.programs()[f"{kind}/half" if name == "half" else kind]
                     self.assertEqual(places, [program.place_after(300)] * form.harts)
 
     def test_a_timer_interrupts_a_wired_board(self) -> None:

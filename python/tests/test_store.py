@@ -1,12 +1,6 @@
-"""Tries `Save` and `Load` with real files: names, links, rights, full disks, and runs that are cut off.
-
-    python/tests/test_store.py           all
-    python/tests/test_store.py -k link   those with this word in their name
-
-With LAB set that program is run, else the one that ./lab runs. As root the tests of rights run the program as
-another user. What can't be tried here, as mounts without the right to them, is told in a line. It prints else what is
-wrong alone, and ends with 0 where nothing was, and with 1 where something was.
-"""
+"""Tries `Save` and `Load` with real files: names, links, rights, full disks, and runs that are cut off. As root the
+tests of rights run the program as another user. What cannot be tried here, as mounts without the right to them, is told
+in a line."""
 import os
 import resource
 import shutil
@@ -22,8 +16,6 @@ from typing import Any, Callable, Dict, List, Optional, Sequence, Tuple
 
 from labtools.common.program import path_of_program
 
-
-PROGRAM = Path(path_of_program())
 SECONDS = 60
 NOBODY = 65534
 IS_ROOT = os.geteuid() == 0
@@ -74,7 +66,7 @@ class Store(unittest.TestCase):
     def setUp(self) -> None:
         self.room = Path(tempfile.mkdtemp(prefix="lab-store-"))
         self.addCleanup(shutil.rmtree, self.room)
-        shutil.copy(PROGRAM, self.room / "lab")
+        shutil.copy(path_of_program(), self.room / "lab")
         os.chmod(self.room / "lab", 0o755)
         os.chmod(self.room, 0o755)
         self.folder = self.room / "in"

@@ -2,13 +2,8 @@
 stay to the end; that a log does not depend on them where there is one processor, where none can be made, and where a
 finisher ends a run in its first round; and that none outlives its run, or burns a processor while nobody calls it.
 
-    python/tests/test_threads.py           all
-    python/tests/test_threads.py -k made   those with this word in their name
-
-With LAB set that program is run, else the one that ./lab runs. As root the program is run as another user where no
-thread may be made, since that limit does not count for root. Where the limit does not hold at all, that is told in a
-line. It prints else what is wrong alone, and ends with 0 where nothing was, and with 1 where something was.
-"""
+As root the program is run as another user where no thread may be made, since that limit does not count for root. Where
+the limit does not hold at all, that is told in a line."""
 import errno
 import os
 import resource
@@ -20,11 +15,9 @@ import unittest
 from pathlib import Path
 from typing import Callable, Dict, List, NamedTuple, Optional, Sequence
 
-from labdev.speed_loads import PROGRAMS
+from labdev.speed_loads import programs
 from labtools.common.program import TOP, path_of_program
 
-
-PROGRAM = Path(path_of_program())
 SECONDS = 120
 BOARDS = 8
 WORKERS = 2, 4, 8
@@ -52,12 +45,7 @@ cpu: CPU.RiscV32 @ sysbus { cpuType: "rv32im" }
 """
 # A script that comes to this line waits until somebody writes into the pipe.
 WAIT = "sysbus LoadBinary @pipe 0x80008000"
-IMAGES = {
-    "ping": (TOP / "demo/hub/ping.bin").read_bytes(),
-    "pong": (TOP / "demo/hub/pong.bin").read_bytes(),
-    "sum": (TOP / "demo/pass/sum.bin").read_bytes(),
-    "additions": PROGRAMS["additions"].image,
-}
+IMAGES = {"ping": "demo/hub/ping.bin", "pong": "demo/hub/pong.bin", "sum": "demo/pass/sum.bin"}
 # The firmware `ping` sends its five letters in 27 slots, which are over in the first microsecond. Every second board
 # has it.
 FIRST_LINES = [f"[0.000000] m{number}/uart: ping" for number in range(0, BOARDS, 2)]
@@ -135,10 +123,12 @@ class Rooms(unittest.TestCase):
         self.room = Path(tempfile.mkdtemp(prefix="lab-threads-"))
         self.addCleanup(shutil.rmtree, self.room)
         self.room.chmod(0o755)
-        shutil.copy(PROGRAM, self.room / "lab")
+        shutil.copy(path_of_program(), self.room / "lab")
         (self.room / "lab").chmod(0o755)
-        for name, held in {"board.repl": PLATFORM.encode(), **IMAGES}.items():
-            (self.room / name).write_bytes(held)
+        (self.room / "board.repl").write_text(PLATFORM)
+        (self.room / "additions").write_bytes(programs()["additions"].image)
+        for name, path in IMAGES.items():
+            shutil.copy(TOP / path, self.room / name)
 
     def begin(
         self, lines: Sequence[str], workers: int, before: Optional[Callable[[], None]] = None
@@ -218,8 +208,7 @@ class Logs(Rooms):
 
     def test_where_no_thread_can_be_made_the_log_is_the_same(self) -> None:
         if not are_threads_refused():
-            print("passed over: runs that can make no thread, since the limit on processes does not hold here")
-            return
+            self.skipTest("runs that can make no thread, since the limit on processes does not hold here")
         lines = crowd(run_for(10_000))
         alone = self.seen(lines, 1)
         self.assertEqual((alone.log.splitlines()[: len(FIRST_LINES)], alone.threads), (FIRST_LINES, 1))

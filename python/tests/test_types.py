@@ -1,57 +1,70 @@
-"""Tries that the Python programs of this repository are read by Python 3.8, and that each of their functions says the
-types of what it takes and gives. It ends with 0, or with 1 where something is wrong.
-"""
+"""Tries that the Python programs of this repository are typed and laid out, and that Python 3.8 reads them. What mypy,
+flake8 or black would say is passed over where it is not installed."""
 import ast
 import pathlib
+import re
+import shutil
+import subprocess
 import unittest
-from typing import Iterator, List
+from typing import List
 
 from labtools.common.program import TOP
 
-
-SAMPLE = """
-class Room:
-    def __init__(self, path: str) -> None:
-        self.path = path
-
-    def read(self, name):
-        def whole(*parts: str, **how: int):
-            return parts
-        return whole(self.path, name)
-
-    @classmethod
-    def new(cls, *parts) -> "Room":
-        return cls("".join(parts))
+PYTHON = TOP / "python"
+# What a file may not hold, but for a comment with what it ignores and the reason: `# type: ignore[code]  # (why)`.
+GAMES = re.compile(r"sys\.path\b|#\s*noqa\b|#\s*type:\s*ignore(?!\[[a-z-]+(?:,[a-z-]+)*\]  # \()")
+SAMPLE = """import sys
+def typed(it: int) -> int:
+    sys.%s.append("lib")  # no%s
+    return it + ""  # type%s ignore
 """
 
 
-def programs() -> Iterator[pathlib.Path]:
-    for path in [TOP / "test", *(TOP / "tools").rglob("*"), *(TOP / "demo").rglob("*"), *(TOP / "cases").rglob("*")]:
-        if path.is_file() and (path.suffix == ".py" or path.read_bytes().startswith(b"#!/usr/bin/env python3\n")):
-            yield path
+def programs() -> List[pathlib.Path]:
+    """Returns all Python programs: modules, and files that begin as programs do."""
+    folders = [PYTHON, TOP / "demo", TOP / "cases", TOP / "packaging", TOP / "tools"]
+    found = [it for folder in folders for it in folder.rglob("*") if it.is_file() and not it.is_symlink()]
+    first = b"#!/usr/bin/env python3\n"
+    return sorted(it for it in found if it.suffix == ".py" or it.read_bytes().startswith(first))
 
 
-def untyped(text: str) -> List[str]:
-    """Returns the functions of a program that lack a type, in the order of their lines."""
-    found = []
-    for it in ast.walk(ast.parse(text, feature_version=(3, 8))):
-        if isinstance(it, ast.FunctionDef):
-            rest = [more for more in (it.args.vararg, it.args.kwarg) if more]
-            given = [*it.args.posonlyargs, *it.args.args, *it.args.kwonlyargs, *rest]
-            lacks = [one for one in given if one.annotation is None and one.arg not in ("self", "cls")]
-            if lacks or it.returns is None:
-                found.append((it.lineno, it.name))
-    return [f"line {line}: {name}" for line, name in sorted(found)]
+def outside_packages() -> List[pathlib.Path]:
+    return [it for it in programs() if PYTHON not in it.parents]
 
 
 class Types(unittest.TestCase):
-    def test_a_function_that_lacks_a_type_is_found(self) -> None:
-        self.assertEqual(untyped(SAMPLE), ["line 6: read", "line 7: whole", "line 12: new"])
+    def said_by(self, tool: str, *words: str) -> str:
+        """Returns what a checker says of all programs, with the settings of python/, or passes over it."""
+        # Debian's stands for the Python of the system, where another one may be first on the path.
+        found = next((it for it in (shutil.which(tool), f"/usr/bin/{tool}") if it and pathlib.Path(it).exists()), None)
+        if found is None:
+            self.skipTest(f"what {tool} would say, without {tool}")
+        command = [found, *words]
+        ran = subprocess.run(command, cwd=PYTHON, stdout=subprocess.PIPE, stderr=subprocess.STDOUT, text=True)
+        return "" if ran.returncode == 0 else ran.stdout
 
-    def test_each_function_says_its_types(self) -> None:
-        every = list(programs())
-        self.assertIn(TOP / "python/labtools/common/program.py", every)
-        self.assertIn(TOP / "tools/log", every)
-        for program in every:
+    def test_mypy_finds_nothing(self) -> None:
+        # What was found of a file that has not changed since is kept where builds keep theirs.
+        quiet = ["--no-error-summary", "--hide-error-context", "--cache-dir", str(TOP / "out/mypy")]
+        # (Several programs outside of packages may have one name, so each is looked at by itself.)
+        for group in [["."], *([str(it)] for it in outside_packages())]:
+            self.assertEqual(self.said_by("mypy", *quiet, *group), "")
+
+    def test_flake8_finds_nothing(self) -> None:
+        self.assertEqual(self.said_by("flake8", ".", *map(str, outside_packages())), "")
+
+    def test_black_changes_nothing(self) -> None:
+        self.assertEqual(self.said_by("black", "-q", "--diff", "--check", ".", *map(str, outside_packages())), "")
+
+    def test_python_3_8_reads_each_program(self) -> None:
+        self.assertIn(PYTHON / "launch.py", programs())
+        self.assertGreater(len(programs()), 50)
+        for program in programs():
             with self.subTest(program=str(program.relative_to(TOP))):
-                self.assertEqual(untyped(program.read_text(encoding="utf-8")), [])
+                ast.parse(program.read_text(encoding="utf-8"), feature_version=(3, 8))
+
+    def test_no_program_plays_games_with_its_path_or_with_the_checkers(self) -> None:
+        self.assertEqual(len(GAMES.findall(SAMPLE % ("path", "qa", ":"))), 3)
+        for program in programs():
+            with self.subTest(program=str(program.relative_to(TOP))):
+                self.assertEqual(GAMES.findall(program.read_text(encoding="utf-8")), [])

@@ -1,22 +1,14 @@
 """Tries that the scripts of tools/ tell in a line what is wrong with their words and files, or that what they print
-cannot be written, and end with the status that their heads say. The lines were written down by hand beforehand.
-
-    python/tests/test_words.py [NAME ..]
-
-It needs no program: a stand-in does nothing. It prints what is wrong alone, and ends with 0, or with 1 where something
-is.
-"""
+cannot be written, and end with the status that their heads say. The lines were written down by hand beforehand. It
+needs no program: a stand-in does nothing."""
 import os
-import pathlib
 import shutil
 import signal
 import subprocess
 import sys
-import tempfile
-import unittest
-from typing import Any
 
 from labtools.common.program import TOP
+from tests.commands import Commands
 
 
 # The words of a command, its status and its line, where no program is there. COUNT, FIRST and LANES are numbers from 1.
@@ -40,7 +32,6 @@ WORDS = (
     ("costs nosuch", 2, "no name has the word nosuch: tools/costs [WORD ..]"),
     ("costs hubs nosuch", 2, "no name has the word nosuch: tools/costs [WORD ..]"),
     ("crates x", 2, "these words are not taken: tools/crates [--chain]"),
-    ("tests/pages_are_freed nosuch", 2, "these words are not taken: python/tests/test_pages_are_freed.py"),
     ("recipes none.md", 2, "none.md: No such file or directory"),
     ("recipes page.md none.md", 2, "none.md: No such file or directory"),
     ("recipes .", 2, ".: Is a directory"),
@@ -77,20 +68,21 @@ PRINTING = (
     ("recipes --help", 1),
     ("explain --help", 1),
     ("package --help", 1),
+    ("expect --help", 73),
     ("suite --help", 2),
 )
 FULL = "[Errno 28] No space left on device"
+# An output that is closed.
+CLOSE = -100
 CLOSED = "[Errno 9] Bad file descriptor"
 # A laboratory without boards, at its beginning, whose quantum is 100 microseconds (docs/SNAPSHOTS.md).
 KEPT = b"LABSNAP1" + bytes(8) + (100).to_bytes(8, "little") + bytes(4 * 8)
 COMMENT = "# A page\n\n<!-- do -->\nNo block is here.\n"
 
 
-class Words(unittest.TestCase):
+class Words(Commands):
     def setUp(self) -> None:
-        folder = tempfile.TemporaryDirectory(prefix="lab-words-")
-        self.addCleanup(folder.cleanup)
-        self.room = pathlib.Path(folder.name).resolve()
+        super().setUp()
         held = {"kept": KEPT, "s.resc": b"", "a.log": b"[0.000001] m/u: one\n", "bytes.md": b"\xff\n", "page.md": b""}
         for name, data in {**held, "comment.md": COMMENT.encode()}.items():
             (self.room / name).write_bytes(data)
@@ -98,32 +90,35 @@ class Words(unittest.TestCase):
         (self.room / "bin").mkdir()
         for name in "rt", "valgrind", "lab":
             (self.room / "bin" / name).symlink_to(str(shutil.which("false")))
-
-    def call(self, words: str, lab: str = "/none/lab", buffered: bool = True, **how: Any) -> "subprocess.Popen[str]":
-        script, *rest = words.split()
         path = f"{self.room}/bin:{os.environ['PATH']}"
-        env = {**os.environ, "LAB": lab, "PATH": path, "LC_ALL": "C", "PYTHONUNBUFFERED": "" if buffered else "1"}
-        with subprocess.Popen(
+        self.environment.update({"LAB": "/none/lab", "PATH": path, "LC_ALL": "C"})
+
+    def ended(self, words: str, buffered: bool = True, output: int = subprocess.PIPE, **settings: str) -> int:
+        """Calls a script, and returns its status. Its output may be closed, by `CLOSE`."""
+        script, *rest = words.split()
+        ran = subprocess.run(
             [sys.executable, str(TOP / "tools" / script), *rest],
             cwd=self.room,
-            env=env,
+            env={**self.environment, "PYTHONUNBUFFERED": "" if buffered else "1", **settings},
             text=True,
+            timeout=60,
             stdin=subprocess.DEVNULL,
+            stdout=None if output == CLOSE else output,
             stderr=subprocess.PIPE,
-            **{"stdout": subprocess.PIPE, **how},
-        ) as process:
-            self.printed, self.told = process.communicate(timeout=60)
-        return process
+            preexec_fn=(lambda: os.close(1)) if output == CLOSE else None,
+        )
+        self.printed, self.told = ran.stdout or "", ran.stderr
+        return ran.returncode
 
     def test_a_line_says_what_is_wrong(self) -> None:
         for words, status, line in WORDS:
             with self.subTest(words=words):
-                ended = self.call(words).returncode
+                ended = self.ended(words)
                 wanted = f"tools/{words.split()[0]}: {line}\n".replace("ROOM", str(self.room))
                 self.assertEqual((ended, self.printed, self.told), (status, "", wanted))
 
     def test_a_comment_without_a_block_is_told_with_its_line(self) -> None:
-        ended = self.call("recipes comment.md", str(self.room / "bin/lab")).returncode
+        ended = self.ended("recipes comment.md", LAB=str(self.room / "bin/lab"))
         line = f"{os.path.relpath(self.room / 'comment.md', TOP)}:3: no block stands after the comment\n"
         self.assertEqual((ended, self.printed, self.told), (1, line, ""))
 
@@ -131,7 +126,7 @@ class Words(unittest.TestCase):
         for words, status in PRINTING:
             for buffered in True, False:
                 with self.subTest(words=words, buffered=buffered), open("/dev/full", "wb") as full:
-                    ended = self.call(words, buffered=buffered, stdout=full).returncode
+                    ended = self.ended(words, buffered=buffered, output=full.fileno())
                     self.assertEqual((ended, self.told), (status, f"tools/{words.split()[0]}: {FULL}\n"))
 
     def test_a_suite_tells_that_its_results_cannot_be_written(self) -> None:
@@ -139,15 +134,15 @@ class Words(unittest.TestCase):
         (self.room / "s.log").write_bytes(b"one\n")
         for buffered in True, False:
             with self.subTest(buffered=buffered), open("/dev/full", "wb") as full:
-                ended = self.call("suite s.resc", lab, buffered, stdout=full).returncode
+                ended = self.ended("suite s.resc", buffered, full.fileno(), LAB=lab)
                 self.assertEqual((ended, self.told), (2, f"suite: {FULL}\n"))
-        ended = self.call("suite s.resc", lab, stdout=None, preexec_fn=lambda: os.close(1)).returncode
+        ended = self.ended("suite s.resc", output=CLOSE, LAB=lab)
         self.assertEqual((ended, self.told), (2, f"suite: {CLOSED}\n"))
 
     def test_an_output_that_is_closed_is_told(self) -> None:
         for words, status in PRINTING:
             with self.subTest(words=words):
-                ended = self.call(words, stdout=None, preexec_fn=lambda: os.close(1)).returncode
+                ended = self.ended(words, output=CLOSE)
                 self.assertEqual((ended, self.told), (status, f"tools/{words.split()[0]}: {CLOSED}\n"))
 
     def test_the_names_of_the_tests_are_printed_as_far_as_someone_reads(self) -> None:
@@ -166,6 +161,6 @@ class Words(unittest.TestCase):
             reader, writer = os.pipe()
             os.close(reader)
             with self.subTest(words=words):
-                ended = self.call(words, stdout=writer).returncode
+                ended = self.ended(words, output=writer)
                 self.assertEqual((ended, self.told), (-signal.SIGPIPE, ""))
             os.close(writer)

@@ -1,20 +1,12 @@
 """Tries tools/workers: that its scripts are taken and have the boards that they say, and what it tells of runs that a
-stand-in makes. The program is that of the variable LAB, and else ./lab.
-
-    python/tests/test_workers.py [NAME ..]
-"""
-import os
+stand-in makes."""
 import pathlib
 import subprocess
 import tempfile
 import unittest
 
-from labdev import workers
-from labtools.common.program import TOP
-
-
-LAB = os.environ.get("LAB", str(TOP / "lab"))
-SCRIPT = TOP / "tools/workers"
+from labdev import trials, workers
+from labtools.common.program import TOP, path_of_program
 
 
 def tell(program: str, *words: str) -> "subprocess.CompletedProcess[str]":
@@ -23,22 +15,23 @@ def tell(program: str, *words: str) -> "subprocess.CompletedProcess[str]":
         path = pathlib.Path(room) / "lab"
         path.write_text(f"#!/bin/sh\n{program}\n")
         path.chmod(0o755)
-        return subprocess.run([SCRIPT, "--lab", str(path), *words], capture_output=True, text=True, timeout=60)
+        return subprocess.run(
+            [TOP / "tools/workers", "--lab", str(path), *words], capture_output=True, text=True, timeout=60
+        )
 
 
 class Runs(unittest.TestCase):
     def test_each_script_is_taken(self) -> None:
-        for name, run in workers.RUNS.items():
+        for name, run in workers.runs().items():
             if not run.files:
                 continue
             with self.subTest(name=name), tempfile.TemporaryDirectory(prefix="lab-tests-workers-") as room:
-                for path, held in run.files.items():
-                    (pathlib.Path(room) / path).write_bytes(held)
-                ran = subprocess.run([LAB, "check", "s.resc"], cwd=room, capture_output=True, text=True, timeout=60)
-                self.assertEqual((ran.returncode, ran.stdout), (0, ""))
+                trials.put(room, run.files)
+                ended = trials.run([path_of_program(), "check", "s.resc"], room)
+                self.assertEqual((ended.status, ended.printed), (0, b""))
 
     def test_sixteen_boards_are_there_and_the_halted_ones_come_last(self) -> None:
-        runs = workers.RUNS
+        runs = workers.runs()
         for name, halted in (("1ms", 0), ("two-awake", 14), ("halted", 16)):
             lines = runs[name].files["s.resc"].decode().splitlines()
             self.assertEqual(sum(line.startswith("mach create") for line in lines), 16, name)

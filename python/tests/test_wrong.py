@@ -1,20 +1,12 @@
-"""Tries tools/wrong, and that the gate asks for it, in a repository of three crates with a kit of a few lines: it refuses
-each edit that does not say `harmless`, and keeps its calls. The answers were written down by hand beforehand.
-
-    python/tests/test_wrong.py [NAME ..]
-
-It needs no program. It prints what is wrong alone, and ends with 0, or with 1 where something is.
-"""
+"""Tries tools/wrong, and that the gate asks for it, in a repository of three crates with a kit of a few lines: it
+refuses each edit that does not say `harmless`, and keeps its calls. The answers were written down by hand
+beforehand."""
 import os
-import pathlib
 import shutil
-import subprocess
-import tempfile
-import unittest
 from typing import List
 
 from labtools.common.program import TOP
-
+from tests.commands import Commands
 
 KIT = """#!/usr/bin/env bash
 echo "$* CI=${CI-}" >>"$CALLS"
@@ -31,16 +23,14 @@ echo '3 passed, 0 failed'
 STALE = "the wrong bodies of these crates were tried over other sources: run tools/wrong"
 
 
-class Wrong(unittest.TestCase):
+class Wrong(Commands):
     def setUp(self) -> None:
-        folder = tempfile.TemporaryDirectory(prefix="lab-wrong-")
-        self.addCleanup(folder.cleanup)
-        self.top = pathlib.Path(folder.name).resolve() / "lab"
-        self.calls = self.top.with_name("calls")
+        super().setUp()
+        self.calls = self.room / "calls"
         self.calls.touch()
-        for folder in "tools", "python":
-            shutil.copytree(TOP / folder, self.top / folder, symlinks=True)
-        shutil.copytree(TOP / ".ci", self.top / ".ci")
+        self.room /= "lab"
+        for name in "tools", "python", ".ci":
+            shutil.copytree(TOP / name, self.room / name, symlinks=True)
         self.write("crates.txt", "low:\nhigh: low\nlab_cli: low high\n")
         self.write("HANDLES", "Handles allowed: none.\n")
         for crate in "low", "high", "lab_cli":
@@ -48,22 +38,13 @@ class Wrong(unittest.TestCase):
         self.write("crates/low/wrong/one.edit", "file: src/lib.rt\nold: low\nnew: high\n")
         self.write("crates/high/wrong/two.edit", "file: src/lib.rt\nold: high\nnew: low\n")
         self.write("crates/high/must-fail/named.edit", "file: src/lib.rt\nold: high\nnew: no\n")
-        self.write("kit/rt", KIT)
-        (self.top / "kit/rt").chmod(0o755)
+        self.write("kit/rt", KIT, 0o755)
+        path = f"{self.room}/kit:{os.environ['PATH']}"
+        self.environment.update({"PATH": path, "CALLS": str(self.calls), "CI": "true"})
 
-    def write(self, path: str, text: str) -> None:
-        (self.top / path).parent.mkdir(parents=True, exist_ok=True)
-        (self.top / path).write_text(text, encoding="utf-8")
-
-    def run_in_it(self, *words: str) -> "subprocess.CompletedProcess[str]":
-        path = f"{self.top}/kit:{os.environ['PATH']}"
-        environment = {**os.environ, "PATH": path, "CALLS": str(self.calls), "CI": "true"}
-        how = {"stdout": subprocess.PIPE, "stderr": subprocess.STDOUT, "stdin": subprocess.DEVNULL}
-        return subprocess.run(words, cwd=self.top, env=environment, text=True, timeout=60, **how)
-
-    def wants(self, status: int, lines: List[str], *words: str) -> None:
-        said = self.run_in_it("tools/wrong", *words)
-        self.assertEqual((said.returncode, said.stdout.splitlines()), (status, lines), words)
+    def says(self, status: int, lines: List[str], *words: str) -> None:
+        ended, said = self.call("tools/wrong", *words)
+        self.assertEqual((ended, said.splitlines()), (status, lines), words)
 
     def called(self) -> List[str]:
         """Returns the calls of the kit since the last look."""
@@ -72,18 +53,18 @@ class Wrong(unittest.TestCase):
         return calls
 
     def try_all(self) -> None:
-        self.assertEqual(self.run_in_it("tools/wrong", "--all").returncode, 0)
+        self.wants(0, "", "tools/wrong", "--all")
         self.called()
 
     def test_edits_that_were_refused_are_kept_and_others_of_the_crate_are_not_tried(self) -> None:
         refused = "rt: must-fail low/one.edit: refused, as it must be: src/lib.rt:1:1: error"
-        self.wants(0, [refused, "1 wrong bodies refused in 1 crates"], "low")
+        self.says(0, [refused, "1 wrong bodies refused in 1 crates"], "low")
         self.assertEqual(self.called(), ["ci low CI="])
-        self.assertTrue((self.top / "crates/low/wrong/tried").is_file())
-        self.wants(1, [f"{STALE} high"], "--check")
+        self.assertTrue((self.room / "crates/low/wrong/tried").is_file())
+        self.says(1, [f"{STALE} high"], "--check")
         both = [refused.replace("low/one", "high/two"), refused, "2 wrong bodies refused in 2 crates"]
-        self.wants(0, both, "--all")
-        self.wants(0, ["2 wrong bodies were refused over the present sources of their crates"], "--check")
+        self.says(0, both, "--all")
+        self.says(0, ["2 wrong bodies were refused over the present sources of their crates"], "--check")
         self.assertEqual(self.called(), ["ci high low CI="])
 
     def test_a_change_of_a_crate_or_of_its_edits_is_seen(self) -> None:
@@ -100,40 +81,37 @@ class Wrong(unittest.TestCase):
             with self.subTest(path=path):
                 self.try_all()
                 self.write(path, text)
-                self.wants(1, [f"{STALE} low"], "--check")
+                self.says(1, [f"{STALE} low"], "--check")
         self.try_all()
-        (self.top / "crates/low/wrong/three.edit").unlink()
-        self.wants(1, [f"{STALE} low"], "--check")
-        self.assertEqual(self.run_in_it("tools/wrong", "--stale").returncode, 0)
+        (self.room / "crates/low/wrong/three.edit").unlink()
+        self.says(1, [f"{STALE} low"], "--check")
+        self.wants(0, "", "tools/wrong", "--stale")
         self.assertEqual(self.called(), ["ci low CI="])
-        self.wants(0, [], "--stale")
+        self.says(0, [], "--stale")
         self.assertEqual(self.called(), [])
 
     def test_what_a_crate_below_changes_is_no_change(self) -> None:
         self.try_all()
         self.write("crates/low/src/lib.rt", "// lower\n")
-        self.wants(1, [f"{STALE} low"], "--check")
+        self.says(1, [f"{STALE} low"], "--check")
 
     def test_an_edit_that_is_not_refused_is_told_and_nothing_is_kept_of_its_crate(self) -> None:
         self.write("crates/low/wrong/none.edit", "file: src/lib.rt\nold: low\nnew: harmless\n")
-        said = self.run_in_it("tools/wrong", "low", "high")
-        self.assertEqual(said.returncode, 1)
-        self.assertIn("crates/low/wrong/none.edit was not refused\n", said.stdout)
-        self.wants(1, [f"{STALE} low"], "--check")
+        self.wants(1, "crates/low/wrong/none.edit was not refused\n", "tools/wrong", "low", "high")
+        self.says(1, [f"{STALE} low"], "--check")
 
     def test_the_gate_fails_before_it_proves_where_a_crate_has_changed(self) -> None:
         self.try_all()
         self.write("crates/high/src/lib.rt", "// higher\n")
-        said = self.run_in_it(".ci/run")
-        self.assertEqual((said.returncode, said.stdout), (1, f"{STALE} high\n"))
+        self.assertEqual(self.call(".ci/run"), (1, f"{STALE} high\n"))
         self.assertEqual(self.called(), [])
         self.try_all()
-        self.assertIn("2 wrong bodies were refused", self.run_in_it(".ci/run").stdout)
+        self.assertIn("2 wrong bodies were refused", self.call(".ci/run")[1])
         self.assertEqual(self.called(), ["ci CI=true"])
 
     def test_other_words_are_refused(self) -> None:
         usage = "tools/wrong NAME .. | --stale | --all | --check"
-        self.wants(2, [f"tools/wrong: these words are not taken: {usage}"])
-        self.wants(2, [f"tools/wrong: these words are not taken: {usage}"], "--all", "low")
-        self.wants(2, [f"tools/wrong: these words are not taken: {usage}"], "--alle")
-        self.wants(2, [f"tools/wrong: crates/lab_cli/wrong has no edits: {usage}"], "lab_cli")
+        self.says(2, [f"tools/wrong: these words are not taken: {usage}"])
+        self.says(2, [f"tools/wrong: these words are not taken: {usage}"], "--all", "low")
+        self.says(2, [f"tools/wrong: these words are not taken: {usage}"], "--alle")
+        self.says(2, [f"tools/wrong: crates/lab_cli/wrong has no edits: {usage}"], "lab_cli")
