@@ -15,8 +15,8 @@ ROWS = (
     ("a run that is killed, without strace", "store -k is_killed"),
     ("a disk that refuses a call, without strace", "store -k refuses_a_call"),
     ("a full disk, without the right to mount", "store -k full_disk"),
-    ("test_suite.Servers.test_make, without make", "suite.Servers.test_make"),
-    ("test_suite.Servers.test_ctest, without cmake", "suite.Servers.test_ctest"),
+    ("Servers.test_make, without make", "suite.Servers.test_make"),
+    ("Servers.test_ctest, without cmake", "suite.Servers.test_ctest"),
     ("the words of the loops, without an assembler for RISC-V", "speed -k words_are_those"),
 )
 WITHOUT_PYELFTOOLS = (("the reports, without pyelftools", "where.Reports"),)
