@@ -21,14 +21,14 @@ use std::mem;
 use sys_bus::BoardPlan;
 
 /// Where a turn begins: slot `first` of the grant that begins at microsecond `from`.
-#[derive(Clone, Copy, PartialEq, Eq, Debug)]
+#[derive(Clone, Copy, PartialEq, Eq)]
 pub struct SlotAt {
     pub from: Micros,
     pub first: u64,
 }
 
 /// How many slots a turn has taken.
-#[derive(Clone, Copy, PartialEq, Eq, Debug)]
+#[derive(Clone, Copy, PartialEq, Eq)]
 pub enum Turn {
     /// All that were asked for.
     Used(u64),

@@ -15,7 +15,7 @@ use rv_hart::{Hart, HartState, Letters};
 use sys_bus::{BoardPlan, PlicSize, Target, is_speed, target_of};
 
 /// All of a board that changes, its memories aside. Lists are in the order of the plan.
-#[derive(PartialEq, Eq, Drop, Debug)]
+#[derive(PartialEq, Eq, Drop)]
 pub struct BoardState {
     /// Instructions a microsecond of all processors together.
     pub speed: u32,
