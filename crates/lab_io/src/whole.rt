@@ -18,7 +18,7 @@ use std::str;
 const MOST_BYTES: usize = 16_777_216;
 
 /// Why a file was not read.
-#[derive(Clone, Copy, PartialEq, Eq)]
+#[derive(Clone, Copy)]
 pub enum ReadFault {
     /// The read failed, and the files counted it.
     Unread,

@@ -12,7 +12,7 @@ pub struct Key {
 
 /// One device of one board. `dev` is its place among the board's devices that reach other boards,
 /// counted from 0 in order of their entries.
-#[derive(Clone, Copy, PartialEq, Eq, Hash)]
+#[derive(Clone, Copy, PartialEq, Eq, PartialOrd, Ord, Hash)]
 pub struct Member {
     pub board: BoardNo,
     pub dev: u8,

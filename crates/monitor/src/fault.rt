@@ -10,7 +10,7 @@ use resc_vars::ScriptCause;
 use std::fmt;
 
 /// Why a run is refused at a place in a file.
-#[derive(Clone, Copy, PartialEq, Eq)]
+#[derive(Clone, Copy)]
 pub enum Cause {
     /// S1 to S21: by a line of a script, or as a file that is too large or no text.
     Script(ScriptCause),

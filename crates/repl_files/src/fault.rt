@@ -7,7 +7,7 @@ use repl_read::PlatCause;
 use std::alloc::{AllocError, AllocFailed, Global};
 
 /// What is wrong with a platform file.
-#[derive(Clone, Copy, PartialEq, Eq)]
+#[derive(Clone, Copy)]
 pub enum FileCause {
     /// The line names a file, and 8 bodies are open, or 64 files were read.
     Depth,

@@ -25,7 +25,7 @@ pub enum Next {
 }
 
 /// Why a body is not opened.
-#[derive(Clone, Copy, PartialEq, Eq)]
+#[derive(Clone, Copy)]
 pub enum FlowFault {
     /// 8 bodies are open beside the script.
     Depth,

@@ -1,7 +1,7 @@
 //! Why a text is not assembled.
 
 /// What is wrong with a line.
-#[derive(Clone, Copy, PartialEq, Eq)]
+#[derive(Clone, Copy, PartialEq, Eq, Debug)]
 pub enum AsmCause {
     /// The first word is neither an instruction nor `.word`.
     Name,
@@ -14,7 +14,7 @@ pub enum AsmCause {
 }
 
 /// Why a text is not assembled.
-#[derive(Clone, Copy, PartialEq, Eq)]
+#[derive(Clone, Copy, Debug)]
 pub enum AsmFault {
     /// The first line with a fault: its number, from 1 on, and the cause, the first in the order of
     /// `AsmCause`.

@@ -77,7 +77,7 @@ pub enum Op {
 }
 
 /// How the bits of a word are split into fields (RISC-V Unprivileged ISA, section 2.3).
-#[derive(Clone, Copy, PartialEq, Eq)]
+#[derive(Clone, Copy)]
 pub enum Format {
     R,
     I,

@@ -2,7 +2,7 @@
 
 /// What a slot sees from outside the hart: the pending interrupts and the time of the board's
 /// timer.
-#[derive(Clone, Copy, PartialEq, Eq)]
+#[derive(Clone, Copy)]
 pub struct Lines {
     /// The lines of the interrupts, at bits 3, 7 and 11; other bits are not read.
     pub mip: u32,

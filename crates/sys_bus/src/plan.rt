@@ -30,7 +30,7 @@ pub struct Named {
 }
 
 /// How many sources and contexts an interrupt controller has.
-#[derive(Clone, Copy, PartialEq, Eq)]
+#[derive(Clone, Copy)]
 pub struct PlicSize {
     pub sources: u8,
     pub contexts: u8,

@@ -16,7 +16,7 @@ pub enum RegionKind {
 }
 
 /// A range of addresses in bytes, and what stands there.
-#[derive(Clone, Copy, PartialEq, Eq)]
+#[derive(Clone, Copy)]
 pub struct Region {
     pub base: u32,
     pub size: u32,
