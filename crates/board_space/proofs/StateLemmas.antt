@@ -135,7 +135,8 @@ pub device_kinds : (ds : List BoardDevice) → map kind_of (map (λ f. f.state) 
 device_kinds [] = refl
 device_kinds (d ∷ ds) = ap (λ rest. kind_of d.state ∷ rest) (device_kinds ds)
 
-pub clint_fits : (timer : Option Timer) → IsClintFor (option_map (λ t. t.frequency) timer) (option_map (λ t. t.state) timer)
+pub clint_fits :
+    (timer : Option Timer) → IsClintFor (option_map (λ t. t.frequency) timer) (option_map (λ t. t.state) timer)
 clint_fits None = tt
 clint_fits (Some timer) = tt
 

@@ -25,13 +25,10 @@ use Rattle.dev_core.specs.Post.{post_key}
 use Rattle.lab_state.specs.Boundary.{boundary, waiting, due, not_due, handed_at, kept_at}
 use Rattle.lab_state.specs.Handed.{sent_in, handed_in, handed_over, is_of_hub}
 use Rattle.lab_state.specs.Hub.{Hub, delay_of}
-use Rattle.lab_state.specs.Lab.{Lab, Seen}
-use Rattle.time_source.specs.Tree.{Tree}
-use Rattle.lab_state.specs.Inner.Spares.{Spares}
-use Rattle.lab_state.specs.Inner.Standing.{IsSound}
-use Rattle.lab_state.proofs.SoundLemmas.{unspent}
+use Rattle.lab_state.specs.Lab.{Lab}
 use Rattle.lab_state.specs.Undelayed.{AreUndelayed, undelayed_boundary, undelayed_round}
-use Rattle.lab_state.proofs.UndelayedLemmas.{undelayed_is}
+use Rattle.lab_laws.proofs.UndelayedLemmas.{undelayed_is}
+use Rattle.lab_state.proofs.ReachedLemmas.{IsReached}
 use Rattle.lab_state.specs.Pending.{is_of_a_hub, due_at, is_due, IsPending, ArePending}
 use Rattle.lab_state.specs.Round.{round, round_by, stepped, granted, ended}
 use Rattle.lab_state.specs.Inner.End.{in_round}
@@ -39,20 +36,6 @@ use Rattle.lab_state.specs.Inner.Time.{numbers_of, AreStanding}
 use Rattle.lab_state.proofs.PendingLemmas.{AreOfRound, earlier, rising-filter, waiting-is, waiting_rise, pending-after}
 use Rattle.lab_state.proofs.PendingLemmas.{filter-listing}
 use Rattle.lab_state.proofs.RoundLemmas.{Numbering, Timing, standing, posts_differ, sent_in_round, numbers-routes}
-
--- a laboratory whose posts wait rightly, and whose boards have made few posts
-pub record IsReached (lab : Lab) : Type 0 where
-  pub pending : ArePending lab.hubs lab.now lab.pending
-  pub standing : AreStanding (1000 * lab.now) (numbers_of lab.boards)
-
--- so is a laboratory that holds what one holds that is not spent
-pub reached_now :
-    {lab : Lab} {spent : Bool} {s : Seen} {spares : Spares} {source : Tree} →
-    (spent ≡ false → IsSound lab spares source) → record { lab = lab; spent = spent } ≡ s → s.spent ≡ false →
-    lab.now ≡ source.end → IsReached s.lab
-reached_now sound is whole time =
-    let here = unspent sound is whole in
-    subst (λ (s : Seen). IsReached s.lab) is (record { pending = here.pending; standing = rw time here.timed.standing })
 
 -- all that was handed over or goes on waiting at the end of a round
 abbrev all_at : Lab → ℕ → List Post

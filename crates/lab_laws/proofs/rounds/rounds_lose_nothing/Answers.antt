@@ -3,8 +3,8 @@ use Rattle.std.proofs.Common.{refl, ◌+◌}
 use Rattle.lab_state.specs.Boundary.{boundary}
 use Rattle.lab_state.specs.Handed.{sent_in}
 use Rattle.lab_state.specs.Round.{round_by}
-use Rattle.lab_state.proofs.HandedLemmas.{nothing-lost}
-use Rattle.lab_state.proofs.laws.rounds_lose_nothing.Goals as goal
+use Rattle.lab_laws.proofs.HandedLemmas.{nothing-lost}
+use Rattle.lab_laws.proofs.rounds.rounds_lose_nothing.Goals as goal
 
 pub returns-clause-all : goal.returns-clause-all
 unfolding round_by boundary

@@ -19,15 +19,10 @@ use Rattle.lab_state.specs.Boundary.{Handed, boundary, to_route, to_routes, wait
 use Rattle.lab_state.specs.Hub.{Hub, members_of, delay_of}
 use Rattle.lab_state.specs.Pending.{is_finish, is_of_a_hub, due_at, is_due}
 use Rattle.lab_state.specs.Undelayed.{AreUndelayed, to_route_at_once, undelayed_boundary}
+use Rattle.lab_state.proofs.BoundaryLemmas.{filter_all}
 use Rattle.lab_state.proofs.PendingLemmas.{AreOfRound, none_pending, waiting-is}
 
 -- ---- tests that all or none pass
-
-pub filter_all : (p : Post → Bool) (posts : List Post) → All (λ post. p post ≡ true) posts → filter p posts ≡ posts
-filter_all p [] all = refl
-filter_all p (x ∷ xs) all =
-    rw (All-head (λ post. p post ≡ true) x xs all)
-    (ap (λ rest. x ∷ rest) (filter_all p xs (All-tail (λ post. p post ≡ true) x xs all)))
 
 filter_none : (p : Post → Bool) (posts : List Post) → All (λ post. p post ≡ false) posts → filter p posts ≡ []
 filter_none p [] all = refl
