@@ -17,7 +17,7 @@ use Rattle.sys_bus.specs.Part.{regions_of}
 use Rattle.sys_bus.specs.Plan.{IsValid}
 use Rattle.sys_bus.specs.Region.{holds, same_part, target_by, target_if}
 use Rattle.board.specs.Space.{Space, memory_at, target_at}
-use Rattle.monitor.specs.Inner.Places.{StandApart}
+use Rattle.image_laws.specs.Inner.Places.{StandApart}
 use Rattle.lab_num.proofs.ListLemmas.{found_passes, passes_at, range_passes}
 
 count_more :

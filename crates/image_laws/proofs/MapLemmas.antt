@@ -21,7 +21,7 @@ use Rattle.sys_bus.specs.Region.{target_of}
 use Rattle.board.specs.Space.{Space, memory_at, target_at, with_memory}
 use Rattle.board.specs.View.{View}
 use Rattle.board_space.proofs.CopyLemmas.{plan-copied, plan-put_in}
-use Rattle.monitor.specs.Inner.Places.{StandApart}
+use Rattle.image_laws.specs.Inner.Places.{StandApart}
 use Rattle.monitor.specs.Images.{byte_held, byte_of, holds_part, size, unreserved, with_part, with_parts}
 use Rattle.monitor.proofs.ImageLemmas.{cleared_twice, part_still}
 
