@@ -3,7 +3,7 @@ use lab_num::{BoardNo, NoMemory};
 use uart_hub::HubFault;
 
 /// Why a board was not added.
-#[derive(Clone, Copy)]
+#[derive(Clone, Copy, PartialEq, Eq)]
 pub enum AddFault {
     /// A board or a hub has the name.
     Taken,
