@@ -18,7 +18,8 @@ use crate::space::halves::of_half;
 use dev_core::Device;
 use lab_num::{Micros, NoMemory};
 use rv_atomic::{Shared, Watch, is_store, laws, step_shared};
-use rv_exec::{Fetched, perform};
+use rv_decode::decode;
+use rv_exec::{perform, perform_meant};
 use rv_hart::{Hart, Lines};
 
 /// One slot of the processor of this number, in this microsecond, as `slot` takes it.
@@ -208,9 +209,9 @@ fn do_word<const COPY: u8, D: Device>(
         return do_word_apart(hart, number, watch, word, bus, lines);
     }
     laws::atomic_words_mean_no_other();
-    match Fetched::of_word(word) {
-        Fetched::Bad(_) => do_word_apart(hart, number, watch, word, bus, lines),
-        what => perform(hart, what, bus, lines),
+    match decode(word) {
+        Some(i) => perform_meant(hart, &i, word, bus, lines),
+        None => do_word_apart(hart, number, watch, word, bus, lines),
     }
 }
 

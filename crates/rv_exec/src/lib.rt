@@ -16,4 +16,4 @@ mod word;
 pub use bus::{Bus, low_bytes};
 pub use execute::{perform, step};
 pub use fetched::Fetched;
-pub use word::perform_word;
+pub use word::{perform_meant, perform_word};

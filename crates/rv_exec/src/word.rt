@@ -461,6 +461,66 @@ fn execute_word<B: Bus>(
     Ok(())
 }
 
+/// Does the instruction that a word means, as the slot of that word does it.
+#[tactic(auto, unfolding(crate::specs::Effect::effect))]
+#[inline(always)]
+fn execute_meant<B: Bus>(
+    hart: &mut Hart,
+    i: &Instr,
+    word: u32,
+    bus: &mut B,
+    lines: Lines,
+) -> Result<(), NoMemory>
+    requires means { means word ≡ Some i.now }
+    requires fields { IsInstr i.now }
+    ensures core { let effect = effect hart.old (of_word word) lines in
+        OnOk result (hart.new ≡ core_after B.answer bus.old effect) }
+    ensures bus { let effect = effect hart.old (of_word word) lines in
+        OnOk result (bus.new ≡ bus_after B.loaded B.stored bus.old effect) }
+    ensures asked { OnErr result (AsksBus (effect hart.old (of_word word) lines)) }
+    ensures core_err { OnErr result (hart.new ≡ hart.old) }
+    ensures bus_err { OnErr result (bus.new ≡ bus.old) }
+{
+    rv_decode::laws::offsets_are_even();
+    execute_word(hart, bus, i, word, lines)
+}
+
+/// Does the instruction that a word means, as `perform` does what was fetched.
+///
+/// `NoMemory` comes only where the bus refuses the load or the store of the instruction.
+#[inline(always)]
+pub fn perform_meant<B: Bus>(
+    hart: &mut Hart,
+    i: &Instr,
+    word: u32,
+    bus: &mut B,
+    lines: Lines,
+) -> Result<(), NoMemory>
+    requires means { means word ≡ Some i.now }
+    requires fields { IsInstr i.now }
+    ensures core { let effect = effect hart.old (of_word word) lines in
+        OnOk result (hart.new ≡ core_after B.answer bus.old effect) }
+    ensures bus { let effect = effect hart.old (of_word word) lines in
+        OnOk result (bus.new ≡ bus_after B.loaded B.stored bus.old effect) }
+    ensures asked { OnErr result (AsksBus (effect hart.old (of_word word) lines)) }
+    ensures core_err { OnErr result (hart.new ≡ hart.old) }
+    ensures bus_err { OnErr result (bus.new ≡ bus.old) }
+
+    // What each slot leaves, whatever its instruction.
+    ensures zero { OnOk result (reg hart.new 0 ≡ 0) }
+    ensures mcycle { let effect = effect hart.old (of_word word) lines in
+        OnOk result (RaisesMcycle hart.old (outcome_on B.answer bus.old effect) hart.new) }
+    ensures minstret { let effect = effect hart.old (of_word word) lines in
+        OnOk result (RaisesMinstret hart.old (outcome_on B.answer bus.old effect) hart.new) }
+    ensures trapped { let effect = effect hart.old (of_word word) lines in
+        OnOk result (KeepsMinstret hart.old (outcome_on B.answer bus.old effect) hart.new) }
+    ensures same { OnOk result (IsSameHart hart.old hart.new) }
+{
+    execute_meant(hart, i, word, bus, lines)?;
+    rv_hart::laws::zero_register(hart);
+    Ok(())
+}
+
 /// Does what a word is: an instruction, or the entry of the trap of an illegal one.
 #[tactic(auto, unfolding(crate::specs::Effect::effect))]
 #[inline(always)]
