@@ -143,11 +143,26 @@ fn do_load<B: Bus>(hart: &mut Hart, bus: &mut B, i: &Instr, word: u32) -> Result
     ensures bus_err { OnErr result (bus.new ≡ bus.old) }
 {
     match i.op {
-        Op::Lb => load(hart, bus, &decode_as(i, Op::Lb, word), 4, 1, Shape::SignedByte),
-        Op::Lh => load(hart, bus, &decode_as(i, Op::Lh, word), 4, 2, Shape::SignedHalf),
-        Op::Lw => load(hart, bus, &decode_as(i, Op::Lw, word), 4, 4, Shape::Unsigned),
-        Op::Lbu => load(hart, bus, &decode_as(i, Op::Lbu, word), 4, 1, Shape::Unsigned),
-        Op::Lhu => load(hart, bus, &decode_as(i, Op::Lhu, word), 4, 2, Shape::Unsigned),
+        Op::Lb => {
+            let i = decode_as(i, Op::Lb, word);
+            load(hart, bus, &i, 4, 1, Shape::SignedByte)
+        }
+        Op::Lh => {
+            let i = decode_as(i, Op::Lh, word);
+            load(hart, bus, &i, 4, 2, Shape::SignedHalf)
+        }
+        Op::Lw => {
+            let i = decode_as(i, Op::Lw, word);
+            load(hart, bus, &i, 4, 4, Shape::Unsigned)
+        }
+        Op::Lbu => {
+            let i = decode_as(i, Op::Lbu, word);
+            load(hart, bus, &i, 4, 1, Shape::Unsigned)
+        }
+        Op::Lhu => {
+            let i = decode_as(i, Op::Lhu, word);
+            load(hart, bus, &i, 4, 2, Shape::Unsigned)
+        }
         _ => unreachable!(),
     }
 }
@@ -168,14 +183,23 @@ fn do_store<B: Bus>(hart: &mut Hart, bus: &mut B, i: &Instr, word: u32) -> Resul
     ensures bus_err { OnErr result (bus.new ≡ bus.old) }
 {
     match i.op {
-        Op::Sb => store(hart, bus, &decode_as(i, Op::Sb, word), 4, 1),
-        Op::Sh => store(hart, bus, &decode_as(i, Op::Sh, word), 4, 2),
-        Op::Sw => store(hart, bus, &decode_as(i, Op::Sw, word), 4, 4),
+        Op::Sb => {
+            let i = decode_as(i, Op::Sb, word);
+            store(hart, bus, &i, 4, 1)
+        }
+        Op::Sh => {
+            let i = decode_as(i, Op::Sh, word);
+            store(hart, bus, &i, 4, 2)
+        }
+        Op::Sw => {
+            let i = decode_as(i, Op::Sw, word);
+            store(hart, bus, &i, 4, 4)
+        }
         _ => unreachable!(),
     }
 }
 
-/// What an operation on a register and an immediate gives, and the number of the register that gets it.
+/// An operation on a register and an immediate.
 #[tactic(auto, unfolding(crate::specs::Effect::effect_by))]
 #[inline(always)]
 fn do_immediate(hart: &mut Hart, i: &Instr, word: u32)
@@ -438,14 +462,8 @@ fn execute_word<B: Bus>(
         | Op::Sra
         | Op::Or
         | Op::And => do_registers(hart, i, word),
-        Op::Mul
-        | Op::Mulh
-        | Op::Mulhsu
-        | Op::Mulhu
-        | Op::Div
-        | Op::Divu
-        | Op::Rem
-        | Op::Remu => do_product(hart, i, word),
+        Op::Mul | Op::Mulh | Op::Mulhsu | Op::Mulhu | Op::Div | Op::Divu | Op::Rem | Op::Remu =>
+            do_product(hart, i, word),
         // fences and calls
         Op::Fence | Op::FenceI => advance(hart, 4),
         Op::Ecall => trap(hart, Exception::EnvironmentCall, 0),
