@@ -63,7 +63,7 @@ impl CsrChange {
 }
 
 /// Reads the CSR if the instruction does.
-#[inline]
+#[inline(always)]
 fn read(hart: &Hart, change: CsrChange, i: &Instr, lines: Lines) -> Result<u32, CsrFault>
     ensures { result ≡ ok_or (old_value change hart.now i.now lines) CsrFault.Illegal }
 {
@@ -75,7 +75,7 @@ fn read(hart: &Hart, change: CsrChange, i: &Instr, lines: Lines) -> Result<u32, 
 }
 
 /// Writes the CSR if the instruction does, and says which counter that has written a half of.
-#[inline]
+#[inline(always)]
 fn write(
     hart: &mut Hart,
     change: CsrChange,

@@ -18,6 +18,7 @@ ghost use Rattle.rv_exec.specs.Outcome.{counted};
 ghost use Rattle.rv_exec.specs.Effect.{
   AsksBus,
   bus_after,
+  changes,
   core_after,
   effect,
   effect_by,
@@ -352,6 +353,16 @@ fn do_product(hart: &mut Hart, i: &Instr, word: u32)
     }
 }
 
+/// Clears bits of a control and status register. It is a function of its own, since those that are inlined into the loop
+/// of a slot may not grow much further.
+#[inline(never)]
+fn clear_csr(hart: &mut Hart, operand: u32, i: &Instr, word: u32, lines: Lines)
+    requires { IsInstr i.now }
+    ensures { hart.new ≡ counted (changes CsrChange.Clear operand hart.old i.now 4 word lines) }
+{
+    change_csr(hart, CsrChange::Clear, operand, i, 4, word, lines);
+}
+
 /// An access of a control and status register.
 #[tactic(auto, unfolding(crate::specs::Effect::effect_by))]
 #[inline(always)]
@@ -376,7 +387,7 @@ fn do_csr(hart: &mut Hart, i: &Instr, word: u32, lines: Lines)
         Op::Csrrc => {
             let i = decode_as(i, Op::Csrrc, word);
             let operand = hart.register(i.rs1);
-            change_csr(hart, CsrChange::Clear, operand, &i, 4, word, lines);
+            clear_csr(hart, operand, &i, word, lines);
         }
         Op::Csrrwi => {
             let i = decode_as(i, Op::Csrrwi, word);
@@ -391,7 +402,7 @@ fn do_csr(hart: &mut Hart, i: &Instr, word: u32, lines: Lines)
         Op::Csrrci => {
             let i = decode_as(i, Op::Csrrci, word);
             let operand = u32::from(i.rs1);
-            change_csr(hart, CsrChange::Clear, operand, &i, 4, word, lines);
+            clear_csr(hart, operand, &i, word, lines);
         }
         _ => unreachable!(),
     }
