@@ -91,8 +91,8 @@ def commands(program: bytes, sources: str) -> Tree:
     return {
         **program_files(program, sources),
         **files_below("python/labtools"),
-        "python/launch.py": file_of(TOP / "python/launch.py"),
-        **{f"tools/{name}": link("../python/launch.py") for name in names_of_tools()},
+        "python/__main__.py": file_of(TOP / "python/__main__.py"),
+        **{f"tools/{name}": file_of(TOP / "tools" / name) for name in names_of_tools()},
     }
 
 

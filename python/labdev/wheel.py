@@ -68,7 +68,7 @@ def record(tree: Tree, own: str) -> Iterator[str]:
 def wheel_tree(version: str, share: Tree) -> Tree:
     """Returns the files of the wheel, with these in its folder `share`, and there a file for each tool. No file there
     but ./lab is to be called, which starts these by the Python that LAB_PYTHON names."""
-    launcher = Entry((TOP / "python/launch.py").read_bytes())
+    launcher = Entry((TOP / "python/__main__.py").read_bytes())
     about = f"lab_emulator-{version}.dist-info"
     tree = {
         **{name.partition("/")[2]: entry for name, entry in files_below("python/labtools").items()},

@@ -24,9 +24,13 @@ def scripts() -> List[pathlib.Path]:
     return [TOP / "test", TOP / "demo/check", TOP / "cases/check", *sorted((TOP / "tools").iterdir())]
 
 
+def is_launcher(script: pathlib.Path) -> bool:
+    return script.read_bytes() == (TOP / "test").read_bytes()
+
+
 def text_of(script: pathlib.Path) -> str:
     """Returns the text of a tool's module, or the first line of a shell script's comment."""
-    if not script.is_symlink():
+    if not is_launcher(script):
         return str(re.findall(r"#!.*\n# (.*)\n", script.read_text("utf-8"))[0])
     [module] = PYTHON.glob(f"lab*/{script.name}.py")
     return (ast.get_docstring(ast.parse(module.read_text("utf-8")), clean=False) or "").strip()
@@ -46,14 +50,12 @@ def answer(script: pathlib.Path) -> "subprocess.CompletedProcess[str]":
 
 
 class Help(unittest.TestCase):
-    def test_each_tool_is_a_link_to_the_launcher_and_each_link_a_tool(self) -> None:
-        links = [it.name for it in scripts() if it.is_symlink()]
-        self.assertEqual(sorted(links), modules())
+    def test_each_tool_has_a_launcher_and_each_launcher_a_tool(self) -> None:
+        launchers = [it.name for it in scripts() if is_launcher(it)]
+        self.assertEqual(sorted(launchers), modules())
         for script in scripts():
             with self.subTest(script=script.name):
                 self.assertTrue(script.is_file() and os.access(script, os.X_OK))
-                if script.is_symlink():
-                    self.assertEqual(script.resolve(), PYTHON / "launch.py")
 
     def test_each_script_answers_with_its_text(self) -> None:
         for script in scripts():

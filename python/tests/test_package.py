@@ -219,6 +219,9 @@ class Packages(unittest.TestCase):
         (share,) = root.glob("venv/lib/python3*/site-packages/labtools/share")
         return Place(root, root / "venv/bin/lab", f"{root}/venv/bin/lab-", share)
 
+    def test_pip_is_given_the_version_of_lab(self) -> None:
+        self.assertEqual((TOP / "python/VERSION").read_bytes(), (TOP / "VERSION").read_bytes())
+
     def test_each_runs_the_demos(self) -> None:
         """By the program alone, and by the tool that compares logs."""
         demos = sorted(it.parent.name for it in TOP.glob("demo/*/s.resc"))
