@@ -2,15 +2,15 @@
 
     tools/wrong NAME ..    tries those of these crates
     tools/wrong --stale    those of the crates whose sources or edits have changed since they were tried
-    tools/wrong --all      those of every crate: half an hour on four processors where all is proved, else longer
+    tools/wrong --all      those of every crate: some three hours
     tools/wrong --check    tries nothing, and says which crates have changed since; .ci/run asks this
 
-`rt ci NAME ..` tries them, over a copy of the tree in which they stand in must-fail/; so the crates are proved first
-where no gate on this machine has proved them. Where all edits of a crate were refused, crates/NAME/wrong/tried gets the
-sum of the crate's own sources and that of each edit. It is committed with the change. It ends with 0, with 1 where an
-edit was not refused or a crate has changed since its edits were tried, and with 2 where it is called otherwise.
+`rt must-fail NAME ..` tries them, one crate after another, over a copy of the tree in which they are in must-fail/. The
+copy takes along the libraries that this checkout has built; `rt` builds those that are missing or out of date. Where all
+edits of a crate were refused, crates/NAME/wrong/tried gets the sum of the crate's own sources and the sum of each edit.
+Commit it with the change. It ends with 0, with 1 where an edit was not refused or a crate has changed since its edits
+were tried, and with 2 where it is called otherwise.
 """
-import os
 import pathlib
 import re
 import shutil
@@ -39,8 +39,9 @@ def asked_for(words: List[str]) -> List[WrongBodies]:
 
 
 def copy_tree(crates: List[WrongBodies], to: pathlib.Path) -> None:
-    """Copies what rt reads, with the edits of these crates, and no others, in their folders must-fail/ too."""
-    shutil.copytree(TOP / "crates", to / "crates", ignore=shutil.ignore_patterns("out", "must-fail"))
+    """Copies what rt reads and the libraries that are built here, with the edits of these crates, and no others, in their
+    folders must-fail/ too."""
+    shutil.copytree(TOP / "crates", to / "crates", ignore=shutil.ignore_patterns("incremental", "must-fail"))
     for name in "crates.txt", "HANDLES":
         shutil.copy(TOP / name, to)
     for crate in crates:
@@ -52,14 +53,11 @@ def copy_tree(crates: List[WrongBodies], to: pathlib.Path) -> None:
 
 def refused_by_prover(crates: List[WrongBodies], folder: pathlib.Path) -> Set[str]:
     """Has rt try the edits in that copy, showing what it says, and returns those that were refused, as CRATE/EDIT."""
-    # rt takes names of crates only where it is not the gate.
-    environment = {name: text for name, text in os.environ.items() if name != "CI"}
-    words = ["rt", "ci", *(it.name for it in crates)]
+    words = ["rt", "must-fail", *(it.name for it in crates)]
     refused = set()
     with subprocess.Popen(
         words,
         cwd=folder,
-        env=environment,
         stdout=subprocess.PIPE,
         stderr=subprocess.STDOUT,
         text=True,

@@ -9,7 +9,7 @@ from labtools.common.program import TOP
 from tests.commands import Commands
 
 KIT = """#!/usr/bin/env bash
-echo "$* CI=${CI-}" >>"$CALLS"
+echo "$*" >>"$CALLS"
 for edit in crates/*/must-fail/*.edit; do
   [ -e "$edit" ] || continue
   said='refused, as it must be: src/lib.rt:1:1: error'
@@ -40,7 +40,7 @@ class Wrong(Commands):
         self.write("crates/high/must-fail/named.edit", "file: src/lib.rt\nold: high\nnew: no\n")
         self.write("kit/rt", KIT, 0o755)
         path = f"{self.room}/kit:{os.environ['PATH']}"
-        self.environment.update({"PATH": path, "CALLS": str(self.calls), "CI": "true"})
+        self.environment.update({"PATH": path, "CALLS": str(self.calls)})
 
     def says(self, status: int, lines: List[str], *words: str) -> None:
         ended, said = self.call("tools/wrong", *words)
@@ -59,13 +59,13 @@ class Wrong(Commands):
     def test_edits_that_were_refused_are_kept_and_others_of_the_crate_are_not_tried(self) -> None:
         refused = "rt: must-fail low/one.edit: refused, as it must be: src/lib.rt:1:1: error"
         self.says(0, [refused, "1 wrong bodies refused in 1 crates"], "low")
-        self.assertEqual(self.called(), ["ci low CI="])
+        self.assertEqual(self.called(), ["must-fail low"])
         self.assertTrue((self.room / "crates/low/wrong/tried").is_file())
         self.says(1, [f"{STALE} high"], "--check")
         both = [refused.replace("low/one", "high/two"), refused, "2 wrong bodies refused in 2 crates"]
         self.says(0, both, "--all")
         self.says(0, ["2 wrong bodies were refused over the present sources of their crates"], "--check")
-        self.assertEqual(self.called(), ["ci high low CI="])
+        self.assertEqual(self.called(), ["must-fail high low"])
 
     def test_a_change_of_a_crate_or_of_its_edits_is_seen(self) -> None:
         changes = {
@@ -86,7 +86,7 @@ class Wrong(Commands):
         (self.room / "crates/low/wrong/three.edit").unlink()
         self.says(1, [f"{STALE} low"], "--check")
         self.wants(0, "", "tools/wrong", "--stale")
-        self.assertEqual(self.called(), ["ci low CI="])
+        self.assertEqual(self.called(), ["must-fail low"])
         self.says(0, [], "--stale")
         self.assertEqual(self.called(), [])
 
@@ -107,7 +107,7 @@ class Wrong(Commands):
         self.assertEqual(self.called(), [])
         self.try_all()
         self.assertIn("2 wrong bodies were refused", self.call(".ci/run")[1])
-        self.assertEqual(self.called(), ["ci CI=true"])
+        self.assertEqual(self.called(), ["ci"])
 
     def test_other_words_are_refused(self) -> None:
         usage = "tools/wrong NAME .. | --stale | --all | --check"
