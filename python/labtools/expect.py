@@ -1,22 +1,21 @@
-"""Uses a log as a test: runs a script and compares what it prints with the log that was kept of it.
+"""Uses a log as a test: runs a script and compares what it prints with its kept log.
 
     tools/expect SCRIPT LOG [WORDS]           runs SCRIPT, with further words for lab (--until 2), and compares with LOG
     tools/expect --bless SCRIPT LOG [WORDS]   runs SCRIPT, and keeps what it prints as LOG
 
-Prints a diff where they differ, with the lines' numbers. Equal accesses that repeat are one line of it. It ends with
+If they differ it prints a diff with line numbers, in which equal accesses that repeat are one line. It ends with
 
-  0       lab ended with 0, and the log is that of LOG (or was kept)
-  1       lab ended with 0, and the log is another one; or a test has failed (`pause .. fail`) that does not in LOG; or
-          there is no LOG, or an empty one, which tests nothing, whatever is printed
+  0       lab ended with 0, and the log equals LOG (or was kept)
+  1       lab ended with 0, and the log differs; or a test failed (`pause .. fail`) that does not fail in LOG; or LOG is
+          missing or empty: an empty one tests nothing, whatever is printed
   2 to 6  lab's own status: wrong words, a refused line, a file not read, the output or a snapshot not written
   70, 71  those of ./lab: no kit, or a failed build
-  72      lab ended with 1: memory ran out
-  73      this script was called wrongly, or LOG is no plain file or cannot be written, or nothing was printed that
-          could be kept, or what this prints cannot be written
+  72      lab ended with 1: out of memory
+  73      this script was called wrongly, or LOG is not a plain file or cannot be written, or nothing was printed that
+          could be kept, or the output of this script cannot be written
 
-Any other number is lab's too. LOG is never changed but by --bless, and then only where lab ended with 0 and has printed
-something. With LAB set that program is run in place of ./lab: LAB=/opt/lab/lab tools/expect .. Many tests are run by
-tools/suite.
+Any other number is lab's too. Only --bless changes LOG, and only if lab ended with 0 and printed something. With LAB
+set, that program runs in place of ./lab: LAB=/opt/lab/lab tools/expect .. tools/suite runs many tests.
 """
 import errno
 import os
