@@ -54,7 +54,7 @@ def cores_of(held: Held) -> Dict[str, bytes]:
     cores = {}
     for board in held["boards"]:
         if not NAME.fullmatch(board["name"]):
-            raise NoSnapshot(f"{board['name']} is no name of a board")
+            raise NoSnapshot(f"{board['name']} is not the name of a board")
         if core_name(board["name"]) in cores:
             raise NoSnapshot(f"two boards are {board['name']}")
         machine = machine_of(board, held["time"])
@@ -67,7 +67,7 @@ def lines_of(board: Dict[str, Any], images: List[str], folder: pathlib.Path) -> 
     """Yields what is said of a board: the line that opens its core in gdb."""
     name = board["name"]
     if board["machine"][0] == "none":
-        yield f"{name}: it has no platform, and no core is written"
+        yield f"{name}: it has no platform, so no core is written"
         return
     harts = len(board["machine"][1][""]["plan"]["processors"])
     known = "" if images else "; no ELF file is known of it: FILE.elf stands for yours"

@@ -87,10 +87,10 @@ def warn(script: str, log: str, printed: BinaryIO) -> None:
     """Says what is odd in a log that was kept."""
     failures = list(kept_logs.failures_in(printed))
     if failures:
-        tell(f"{log} says that a test has failed, and the runs to come are wanted to fail it too:")
+        tell(f"{log} says that a test has failed, so later runs are expected to fail it too:")
         program.tell("\n".join(failures))
     if not kept_logs.has_verdict(printed) and finishers.has_finisher(script, pathlib.Path()):
-        tell(f"{log} has no verdict (`pause .. pass`), though a board has a finisher: did the test come to its end?")
+        tell(f"{log} has no verdict (`pause .. pass`), though a board has a finisher: did the test finish?")
 
 
 # ---- a log is compared
@@ -133,7 +133,7 @@ def main(words: List[str]) -> int:
     # Its name is not to be an option of diff.
     log = f"./{given[1]}" if given[1].startswith("-") else given[1]
     if os.path.exists(log) and not os.path.isfile(log):
-        tell(f"{log} is no plain file")
+        tell(f"{log} is not a plain file")
         return REFUSED
     with rooms.Room("lab-expect-") as room, open(room.path / "printed", "w+b") as printed:
         status = run([given[0], *given[2:]], printed, room)

@@ -89,7 +89,7 @@ def points_of(words: Sequence[str]) -> List[Point]:
     for _, values in named:
         count *= len(values)
     if count > MOST_RUNS:
-        raise Undone(f"these are {count} runs, and at most {MOST_RUNS} are made")
+        raise Undone(f"that makes {count} runs; the most is {MOST_RUNS}")
     return [tuple(point) for point in itertools.product(*([(name, it) for it in values] for name, values in named))]
 
 
