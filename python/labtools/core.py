@@ -2,18 +2,18 @@
 
     tools/core [--at TIME] [--until TIME] SCRIPT or SNAPSHOT FOLDER
 
-It runs a copy of the script to its end, or to the lab time of --at, and writes FOLDER/BOARD.core for each board that
-has a platform: its memories, and the registers and CSRs of each processor, which is a thread to gdb. Of each board it
-prints the words that open its core in gdb, with the ELF files that the script loads. FILE.elf stands where they are not
-known, as in a snapshot: name your own there. The gdb is the first for RISC-V on the path: riscv64-unknown-elf-gdb,
-riscv32-unknown-elf-gdb or gdb-multiarch, from version 11 on. --until is lab's. The program is that of the variable LAB,
-and else ./lab of this repository.
+It runs a copy of the script to its end, or to the lab time of --at. For each board that has a platform it writes
+FOLDER/BOARD.core, with the board's memories and the registers and CSRs of each processor, which gdb sees as a thread,
+and prints the command that opens the core in gdb, with the ELF files that the script loads. Where these are not known,
+as for a snapshot, put your own file in place of FILE.elf. The command names the first gdb for RISC-V on the path:
+riscv64-unknown-elf-gdb, riscv32-unknown-elf-gdb or gdb-multiarch; it must be version 11 or later. --until is lab's. The
+program is that of the variable LAB, or else ./lab of this repository.
 
-FOLDER is made if it is not there. Core files of an earlier call are replaced in it, and other files stay: where one has
-the name of a core, nothing is written. Where something fails, the folder has what it had before.
+FOLDER is made if needed. Core files of an earlier call are replaced; other files stay. If one of them has the name of a
+core, nothing is written. If anything fails, the folder keeps what it had before.
 
-It ends with 0, with 1 where the script or the snapshot cannot be taken so far, or the cores or what it prints cannot be
-written, with 2 where its words are wrong, and with 130 where it was interrupted.
+It ends with 0; with 1 if the script or the snapshot cannot be taken that far, or the cores or the output cannot be
+written; with 2 if it is called wrongly; and with 130 if it was interrupted.
 """
 import argparse
 import pathlib
@@ -54,7 +54,7 @@ def cores_of(held: Held) -> Dict[str, bytes]:
     cores = {}
     for board in held["boards"]:
         if not NAME.fullmatch(board["name"]):
-            raise NoSnapshot(f"{board['name']} is no name of a board")
+            raise NoSnapshot(f"{board['name']} is not the name of a board")
         if core_name(board["name"]) in cores:
             raise NoSnapshot(f"two boards are {board['name']}")
         machine = machine_of(board, held["time"])
@@ -67,7 +67,7 @@ def lines_of(board: Dict[str, Any], images: List[str], folder: pathlib.Path) -> 
     """Yields what is said of a board: the line that opens its core in gdb."""
     name = board["name"]
     if board["machine"][0] == "none":
-        yield f"{name}: it has no platform, and no core is written"
+        yield f"{name}: it has no platform, so no core is written"
         return
     harts = len(board["machine"][1][""]["plan"]["processors"])
     known = "" if images else "; no ELF file is known of it: FILE.elf stands for yours"

@@ -1,22 +1,21 @@
-"""Uses a log as a test: runs a script and compares what it prints with the log that was kept of it.
+"""Uses a log as a test: runs a script and compares what it prints with its kept log.
 
     tools/expect SCRIPT LOG [WORDS]           runs SCRIPT, with further words for lab (--until 2), and compares with LOG
     tools/expect --bless SCRIPT LOG [WORDS]   runs SCRIPT, and keeps what it prints as LOG
 
-Prints a diff where they differ, with the lines' numbers. Equal accesses that repeat are one line of it. It ends with
+If they differ it prints a diff with line numbers, in which equal accesses that repeat are one line. It ends with
 
-  0       lab ended with 0, and the log is that of LOG (or was kept)
-  1       lab ended with 0, and the log is another one; or a test has failed (`pause .. fail`) that does not in LOG; or
-          there is no LOG, or an empty one, which tests nothing, whatever is printed
+  0       lab ended with 0, and the log equals LOG (or was kept)
+  1       lab ended with 0, and the log differs; or a test failed (`pause .. fail`) that does not fail in LOG; or LOG is
+          missing or empty: an empty one tests nothing, whatever is printed
   2 to 6  lab's own status: wrong words, a refused line, a file not read, the output or a snapshot not written
   70, 71  those of ./lab: no kit, or a failed build
-  72      lab ended with 1: memory ran out
-  73      this script was called wrongly, or LOG is no plain file or cannot be written, or nothing was printed that
-          could be kept, or what this prints cannot be written
+  72      lab ended with 1: out of memory
+  73      this script was called wrongly, or LOG is not a plain file or cannot be written, or nothing was printed that
+          could be kept, or the output of this script cannot be written
 
-Any other number is lab's too. LOG is never changed but by --bless, and then only where lab ended with 0 and has printed
-something. With LAB set that program is run in place of ./lab: LAB=/opt/lab/lab tools/expect .. Many tests are run by
-tools/suite.
+Any other number is lab's too. Only --bless changes LOG, and only if lab ended with 0 and printed something. With LAB
+set, that program runs in place of ./lab: LAB=/opt/lab/lab tools/expect .. tools/suite runs many tests.
 """
 import errno
 import os
@@ -88,10 +87,10 @@ def warn(script: str, log: str, printed: BinaryIO) -> None:
     """Says what is odd in a log that was kept."""
     failures = list(kept_logs.failures_in(printed))
     if failures:
-        tell(f"{log} says that a test has failed, and the runs to come are wanted to fail it too:")
+        tell(f"{log} says that a test has failed, so later runs are expected to fail it too:")
         program.tell("\n".join(failures))
     if not kept_logs.has_verdict(printed) and finishers.has_finisher(script, pathlib.Path()):
-        tell(f"{log} has no verdict (`pause .. pass`), though a board has a finisher: did the test come to its end?")
+        tell(f"{log} has no verdict (`pause .. pass`), though a board has a finisher: did the test finish?")
 
 
 # ---- a log is compared
@@ -134,7 +133,7 @@ def main(words: List[str]) -> int:
     # Its name is not to be an option of diff.
     log = f"./{given[1]}" if given[1].startswith("-") else given[1]
     if os.path.exists(log) and not os.path.isfile(log):
-        tell(f"{log} is no plain file")
+        tell(f"{log} is not a plain file")
         return REFUSED
     with rooms.Room("lab-expect-") as room, open(room.path / "printed", "w+b") as printed:
         status = run([given[0], *given[2:]], printed, room)

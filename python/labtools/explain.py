@@ -2,16 +2,16 @@
 
     tools/explain PROGRAM STATUS WORDS
 
-PROGRAM has been run with WORDS, as `run SCRIPT`, and has ended with STATUS. This says after
+PROGRAM was run with WORDS, as `run SCRIPT`, and ended with STATUS. This says after
 
-  0     what is silent and mostly a mistake: an image with compressed instructions or of a floating-point ABI for
-        processors without them, an image that is run from address 0 since no pc was set, a script that never runs,
+  0     likely mistakes that lab accepts silently: an image with compressed instructions or a floating-point ABI for
+        processors without them, an image that runs from address 0 since no pc was set, a script that never runs,
         `--until` for a script without `start`
-  3     the line that was refused, what can be seen to be wrong with it, and the cure that the tables of docs/ have
+  3     the line that was refused, what can be seen to be wrong with it, and the cure in the tables of docs/
   4, 6  the file that could not be read or kept, and the lines that lead to it
 
-It reads the script and what it names, but runs no board. It always ends with 0, and prints nothing where it finds
-nothing or cannot tell.
+It reads the script and the files that it names, but runs no board. It always ends with 0, and prints nothing if it
+finds nothing or cannot tell.
 """
 import argparse
 import os

@@ -1,12 +1,12 @@
-"""Shows a log, or writes it in forms that other programs read. docs/LOGS.md has examples.
+"""Shows a log, or converts it for other programs. docs/LOGS.md has examples.
 
-    tools/log --split FOLDER [--no-times] LOG   writes a file a device into the folder: BOARD.DEVICE.log
+    tools/log --split FOLDER [--no-times] LOG   writes a file for each device into the folder: BOARD.DEVICE.log
     tools/log --candump [--received] LOG        prints CAN frames, sent or received, as `candump -L` does
     tools/log --trace LOG                       prints JSON for Perfetto (ui.perfetto.dev) and chrome://tracing
     tools/log --html FILE LOG [LOG]             writes a page to look at; of two logs, with their differences
 
-LOG is a file, or `-` for the standard input: `./lab run s.resc | tools/log --html out.html -`. It ends with 0, with 1
-where a file or its output cannot be read or written, and with 2 where its words are wrong.
+LOG is a file, or `-` for the standard input: `./lab run s.resc | tools/log --html out.html -`. It ends with 0; with 1
+if a file or the output cannot be read or written; and with 2 if it is called wrongly.
 """
 import argparse
 import errno

@@ -1,7 +1,7 @@
-"""A plugin of pytest: scripts with logs are tests, and the fixture `lab` runs laboratories for tests in Python.
+"""A pytest plugin: scripts with logs are tests, and the fixture `lab` runs laboratories for tests in Python.
 
-docs/SUITES.md ("pytest") shows what it does. Installed by pip it is there by itself; elsewhere it is loaded by
-`-p labtools.pytest_plugin`, with the folder python/ of lab in PYTHONPATH.
+docs/SUITES.md ("pytest") shows how to use it. If lab was installed by pip, pytest finds it; otherwise load it by
+`-p labtools.pytest_plugin`, with lab's folder python/ in PYTHONPATH.
 """
 import argparse
 import os

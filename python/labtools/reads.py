@@ -2,20 +2,20 @@
 
     tools/reads [--json] SCRIPT
 
-A line a file: whether it is there, its kind (script, platform, elf, hex, binary, snapshot), its path, and the place
-that asks for it, with the places that lead there behind `<`. Below a file that is not there stand the lines themselves,
-the script's own first. Paths are taken from the folder in which this is started, as lab takes them. Where lab refuses a
-line of the script, and that can be told without boards, the list ends with it. Nothing is run, and no image is read.
+Each line says whether the file is there, its kind (script, platform, elf, hex, binary, snapshot), its path, and the
+place that asks for it, with the places that lead there after `<`. If the file is missing, the lines themselves follow,
+the script's own first. Paths are taken from the folder in which this is started, as lab takes them. If lab refuses a
+line of the script, and that shows without boards, the list ends with it. Nothing is run, and no image is read.
 
-This is not the reader of lab itself, and it is not proved: `lab check` decides. It sees no fault of a platform file or
-an image, and no wrong name or address on a board, and goes on where lab refuses such a line.
+This is not lab's own reader, and it is not proved: `lab check` decides. It sees no fault of a platform file or an
+image, and no wrong name or address on a board, and continues where lab refuses such a line.
 
-The list ends at a script or a snapshot that is a pipe or a device: what that holds is for lab to read. A line on the
-standard error says so.
+The list ends at a script or a snapshot that is a pipe or a device, since only lab may read it. A line on the standard
+error says so.
 
-It ends with 0; with 1 where a file is not there, a line is refused or the list cannot be written; with 2 where its own
-words are wrong. With --json it prints the same as data: `files`, `saves` (the files of `Save`) and `refusal`, which may
-be null.
+It ends with 0; with 1 if a file is missing, a line is refused or the list cannot be written; with 2 if it is called
+wrongly. With --json it prints the same as data: `files`, `saves` (the files of `Save`) and `refusal`, which may be
+null.
 """
 import dataclasses
 import json
@@ -73,5 +73,5 @@ def main(words: List[str]) -> int:
     else:
         tell_reading(reading)
     if reading.unseen:
-        print(shown(f"{name_of_script()}: {reading.unseen} is no plain file, and is left to lab"), file=sys.stderr)
+        print(shown(f"{name_of_script()}: {reading.unseen} is not a plain file, and is left to lab"), file=sys.stderr)
     return 0 if reading.refusal is None and all(file.is_there for file in reading.files) else 1

@@ -1,11 +1,11 @@
-"""Prints what a snapshot holds, a line a value with the place of its first byte. docs/SNAPSHOTS.md has the format.
+"""Prints a snapshot, one line per value with the place of its first byte. docs/SNAPSHOTS.md has the format.
 
     tools/snapshot FILE
 
-It reads the form of a snapshot. Whether a laboratory can be so it asks `lab`, where a program of it stands, that of LAB
-or the one that ./lab runs; where none does, that is not asked. It ends with 0, or with 1 where the file is no snapshot
-of lab or cannot be read, or what it prints cannot be written. Addresses, registers and sets of sources are hexadecimal,
-counts and times decimal. A page of memory is told by its number and how many bytes of it are not 0.
+It checks the form of the snapshot, and asks `lab` whether such a laboratory is possible, using the program of LAB or
+the one that ./lab runs; if there is none, it does not ask. It ends with 0, or with 1 if the file is no snapshot of lab
+or cannot be read, or the output cannot be written. Addresses, registers and sets of sources are hexadecimal, counts and
+times decimal. A page of memory is shown by its number and its count of bytes other than 0.
 """
 import sys
 from typing import List

@@ -4,34 +4,34 @@
     tools/suite --shard PART [--times FILE] [-j N] [--junit FILE] .. FOLDER or SCRIPT ..
     tools/suite --merge [--junit FILE] RESULTS ..
 
-  -j N          tries N tests at a time; as many as there are processors if it is not given
-  --junit FILE  writes the results as JUnit XML too, with what differs and the last 20 lines of each test
+  -j N          runs N tests at a time; by default as many as there are processors
+  --junit FILE  also writes the results as JUnit XML, with the differences and the last 20 lines of each test
   --tap         prints TAP 14 in place of the lines below
-  --timeout S   ends a test that takes longer than S seconds; 300 if it is not given, and 1000000 at most
-  --most BYTES  ends a test that prints more; 100000000 if it is not given
+  --timeout S   ends a test that takes longer than S seconds; 300 by default, and 1000000 at most
+  --most BYTES  ends a test that prints more; 100000000 by default
   --update      keeps what each test prints as its log
-  --shard PART  tries a share of the tests, as 2/3: the second of three; each test is in one of them
+  --shard PART  runs a share of the tests, as 2/3: the second of three; each test is in one of them
   --times FILE  makes shares that take equal times, by the results of an earlier run (--junit)
-  --merge       makes the results of all shards one, tells them, and ends as one suite
+  --merge       merges the results of all shards, prints them, and ends as one suite would
 
-Each X.resc with an X.log beside it is a test, in a folder and in the folders in it. All run in the folder in which
+Each X.resc with an X.log beside it is a test, in a folder and its subfolders. All run in the folder in which
 tools/suite is called, the project's: paths in scripts are taken from there. Comment lines in a script say more:
 
-  # suite: exact            the log is the kept one; so it is where no line says otherwise
+  # suite: exact            the log is the kept one; this is the default
   # suite: notimes          each device's lines are the kept ones in their order, at whatever times
   # suite: verdict          a finisher says `pass`, and none `fail`; the rest of the log is not compared
-  # suite: after boot.resc  that script is run before, once for all that name it, and again where a file that it reads
-                            or a snapshot that it keeps has changed (docs/SUITES.md)
+  # suite: after boot.resc  that script runs first, once for all that name it, and again if a file that it reads or a
+                            snapshot that it keeps has changed (docs/SUITES.md)
 
-Prints a line for each test, `passed`, `failed` or `error` (it could not be tried) with its seconds and its cause, and
-at last `N passed, M failed`, in which an error counts as failed. What differs goes to the standard error. Ends with
+It prints a line for each test, `passed`, `failed` or `error` (it could not be tried) with its seconds and its cause,
+and finally `N passed, M failed`, in which an error counts as failed. Differences go to the standard error. It ends with
 
-  0    all have passed (or their logs were kept)
-  1    one has failed
-  2    something could not be done: these words are wrong, there is no test, a file is missing, lab did not end with 0
+  0    all passed (or their logs were kept)
+  1    one failed
+  2    something could not be done: it was called wrongly, there is no test, a file is missing, lab did not end with 0
   130  it was interrupted
 
-With LAB set that program is run in place of ./lab of this repository: LAB=/opt/lab/lab tools/suite ..
+With LAB set, that program runs in place of ./lab of this repository: LAB=/opt/lab/lab tools/suite ..
 """
 import argparse
 import pathlib

@@ -2,23 +2,23 @@
 
     tools/sweep [-j N] [--log FILE] [--junit FILE] [--shard PART] [--timeout S] [--most BYTES] SCRIPT NAME=VALUES ..
 
-  NAME=1..1000      the variable $NAME of the script has each of these numbers; SCRIPT has a line `$NAME?=VALUE` for it
-  NAME=0..1000..50  each 50th of them
-  NAME=a,b,@c.elf   these words, as they stand; of several variables each value is tried with each
-  -j N              runs N at a time; as many as there are processors if it is not given
+  NAME=1..1000      each of these numbers for the variable $NAME, for which SCRIPT has a line `$NAME?=VALUE`
+  NAME=0..1000..50  every 50th of them
+  NAME=a,b,@c.elf   these words, as written; several variables are tried in every combination
+  -j N              makes N runs at a time; by default as many as there are processors
   --log FILE        compares each log with this one, as a line `# suite:` of the script says: exact, notimes or verdict
   --junit FILE      writes the results as JUnit XML, a test for each value
-  --shard PART      runs a share of them, as 2/3, and the first of all; `tools/suite --merge` makes the results one
-  --timeout S       ends a run that takes longer than S seconds; 300 if it is not given, and 1000000 at most
-  --most BYTES      ends a run that prints more; 100000000 if it is not given
+  --shard PART      makes a share of the runs, as 2/3, and the first of all; `tools/suite --merge` merges the results
+  --timeout S       ends a run that takes longer than S seconds; 300 by default, and 1000000 at most
+  --most BYTES      ends a run that prints more; 100000000 by default
 
-Without --log a run has passed where a finisher says `pass` and none `fail`, as in `# suite: verdict`. If the first run
-has no verdict, the others are compared with its log.
+Without --log a run passes if a finisher says `pass` and none `fail`, as in `# suite: verdict`. If the first run has no
+verdict, the others are compared with its log.
 
-Prints a line for each run that has not passed, then how many have ended how, with their values, and which is the first
-whose log differs from that of FILE, or of the first run, and at last `N passed, M failed`. What differs goes to the
-standard error. Ends with 0, with 1 where a run has failed, with 2 where one could not be made or something could not be
-done, and with 130 where it was interrupted, as tools/suite does. With LAB set that program is run.
+It prints a line for each run that has not passed, then how many ended how, with their values, then the first whose log
+differs from FILE, or from that of the first run, and finally `N passed, M failed`. Differences go to the standard
+error. It ends with 0; with 1 if a run failed; with 2 if one could not be made or something could not be done; and with
+130 if it was interrupted, as tools/suite does. With LAB set, that program runs.
 """
 import contextlib
 import dataclasses
@@ -89,7 +89,7 @@ def points_of(words: Sequence[str]) -> List[Point]:
     for _, values in named:
         count *= len(values)
     if count > MOST_RUNS:
-        raise Undone(f"these are {count} runs, and at most {MOST_RUNS} are made")
+        raise Undone(f"that makes {count} runs; the most is {MOST_RUNS}")
     return [tuple(point) for point in itertools.product(*([(name, it) for it in values] for name, values in named))]
 
 

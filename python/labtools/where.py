@@ -2,18 +2,18 @@
 
     tools/where [--at TIME] [--until TIME] [--json] SCRIPT or SNAPSHOT [BOARD=ELF ..]
 
-It runs a copy of the script to its end, or to the lab time of --at, and prints of each processor whether it runs,
-where, its interrupts, its trap handler, the last trap, the call stack and the registers; of each board what its devices
-have received and nobody has read; and a warning for what is mostly a mistake. `?` marks what is guessed. --until is
-lab's. The program is that of the variable LAB, and else ./lab of this repository.
+It runs a copy of the script to its end, or to the lab time of --at. Of each processor it prints whether it runs, waits
+or is halted, where it is, its interrupts, its trap handler, its last trap, its call stack and its registers; of each
+board, what its devices have received and nobody has read. It warns of likely mistakes. `?` marks guesses. --until is
+lab's. The program is that of the variable LAB, or else ./lab of this repository.
 
-Functions and lines are those of the ELF files that the script loads. BOARD=ELF names another one for a board: firmware
-that was loaded in another form, or a snapshot. pyelftools read them (`apt-get install python3-pyelftools`, or `pip
-install pyelftools`); without these addresses stay numbers, and a line says so. A line of a source needs firmware that
-was compiled by -g, which changes no byte of what is loaded.
+Functions and lines come from the ELF files that the script loads. BOARD=ELF names another one for a board: for firmware
+that was loaded in another form, or for a snapshot. They need pyelftools (`apt-get install python3-pyelftools`, or `pip
+install pyelftools`); without it addresses stay numbers, and a line says so. Lines of a source also need firmware
+compiled with -g, which changes none of the loaded bytes.
 
-It ends with 0, with 1 where the script or the snapshot cannot be taken so far or what it prints cannot be written, with
-2 where its words are wrong, and with 130 where it was interrupted.
+It ends with 0; with 1 if the script or the snapshot cannot be taken that far or the output cannot be written; with 2 if
+it is called wrongly; and with 130 if it was interrupted.
 """
 import argparse
 import dataclasses

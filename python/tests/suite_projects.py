@@ -17,7 +17,7 @@ from labtools.common.program import TOP
 SUITE = str(TOP / "tools/suite")
 EXPECT = str(TOP / "tools/expect")
 
-NO_VERDICT = "has no verdict (`pause .. pass`), though a board has a finisher: did the test come to its end?"
+NO_VERDICT = "has no verdict (`pause .. pass`), though a board has a finisher: did the test finish?"
 
 DEMO_LINES = """\
 passed  T s  demo/suite/booted.resc

@@ -261,7 +261,7 @@ class Files(Room):
         self.write("small.resc", COUNTING)
         lines = self.core("small.resc", "cores")
         self.assertEqual(lines[0], "at 0.000004")
-        self.assertEqual(lines[-1], "bare: it has no platform, and no core is written")
+        self.assertEqual(lines[-1], "bare: it has no platform, so no core is written")
         self.assertEqual(list(self.held("cores")), ["cores/small.core"])
         self.assertLess((self.room / "cores/small.core").stat().st_size, 2**17)
         memories = self.memory("cores/small.core")
@@ -323,14 +323,14 @@ class Faults(Room):
                 before = os.lstat(path), self.held("others")
                 told = self.refused("kept", "others")
                 after = os.lstat(path), self.held("others")
-                line = "tools/core: others/answerer.core: it is no core of a board, and stays as it is\n"
+                line = "tools/core: others/answerer.core: it is not a core of a board, and is left alone\n"
                 self.assertEqual((told, after[1], after[0].st_ino), (line, before[1], before[0].st_ino))
                 self.assertEqual(os.listdir(cores), ["answerer.core"])
                 path.rmdir() if path.is_dir() else path.unlink()
 
     def test_a_folder_that_is_none_and_one_that_cannot_be_made(self) -> None:
         self.write("file", "mine")
-        self.assertEqual(self.refused("none.resc", "file"), "tools/core: file: it is no folder\n")
+        self.assertEqual(self.refused("none.resc", "file"), "tools/core: file: it is not a folder\n")
         self.assertEqual(self.refused("kept", "no/cores"), "tools/core: no/cores: No such file or directory\n")
         self.assertEqual(self.refused("kept", "file/cores"), "tools/core: file/cores: Not a directory\n")
         self.assertEqual((self.room / "file").read_text(), "mine")
@@ -362,7 +362,7 @@ class Faults(Room):
         for old, new, name in (b"asker", b"../up", "../up"), (b"answerer", b"\x1b[2Jmine", "\\x1b[2Jmine"):
             (self.room / "bad").write_bytes(kept.replace(old, new))
             told = self.refused("bad", "cores", env={**os.environ, "LAB": "/none/lab"})
-            self.assertEqual(told, f"tools/core: bad: no snapshot of lab: {name} is no name of a board\n")
+            self.assertEqual(told, f"tools/core: bad: no snapshot of lab: {name} is not the name of a board\n")
         twice = kept.replace(b"\x08" + bytes(7) + b"answerer", b"\x05" + bytes(7) + b"asker")
         (self.room / "bad").write_bytes(twice)
         told = self.refused("bad", "cores", env={**os.environ, "LAB": "/none/lab"})

@@ -20,7 +20,7 @@ suite: demo/suite/boot.resc is run first
   -[0.000100] pause m0/fin: pass
   +[0.000100] pause m0/fin: fail 3
 
-  the last lines that were printed:
+  the last lines printed:
   [0.000100] pause m0/fin: fail 3
 """
 

@@ -11,9 +11,9 @@ from typing import Callable
 from tests.suite_projects import EXPECT, SUITE, Bearing, is_ended, opened_by, wait_for
 
 
-FIFO = "it is a FIFO, and no plain file"
-FOLDER = "it is a folder, and no plain file"
-DEVICE = "it is a device, and no plain file"
+FIFO = "it is a FIFO, not a plain file"
+FOLDER = "it is a folder, not a plain file"
+DEVICE = "it is a device, not a plain file"
 
 
 class Files(Bearing):
@@ -39,7 +39,7 @@ class Files(Bearing):
             "c.resc": f"c.resc cannot be read: {FOLDER}",
             "d.resc": f"d.log cannot be read: {FOLDER}",
             "e.resc": f"e.log cannot be read: {DEVICE}",
-            "f.resc": "f.log cannot be read: it is a socket, and no plain file",
+            "f.resc": "f.log cannot be read: it is a socket, not a plain file",
             "g.resc": f"g.resc cannot be read: {DEVICE}",
             "h.resc": "there is no h.log: --update keeps one",
         }
@@ -119,7 +119,7 @@ class Damage(Bearing):
             self.make("a", "1\n", "1\n", "# suite: after boot.resc\n")
             self.make("boot", None, "")
             (self.folder / "boot.sums").write_bytes(sums)
-            cause = "boot.sums is no list of sums: remove it, and the script is run again"
+            cause = "boot.sums is not a list of sums: remove it, and the script is run again"
             self.errors({"a.resc": f"boot.resc, before it: {cause}"})
             self.assertEqual((self.folder / "boot.sums").read_bytes(), sums)
 

@@ -144,7 +144,7 @@ class Plugin(WithLab):
         for wanted in (
             "failed: a test has failed: [0.000100] pause m0/fin: fail 3\n",
             "\n-[0.000100] pause m0/fin: pass\n+[0.000100] pause m0/fin: fail 3\n",
-            "\nwhere the boards stand:\nat 0.000100\n\nm0\n  cpu: hart 0, runs\n    pc         0x8000002c\n",
+            "\nwhere the boards are:\nat 0.000100\n\nm0\n  cpu: hart 0, runs\n    pc         0x8000002c\n",
         ):
             self.assertIn(wanted, ran.stdout)
 
@@ -157,12 +157,12 @@ class Plugin(WithLab):
         told = self.pytest("tests").stdout
         for wanted in (
             "- lab: demo/sweep/s.resc phase=17 -",
-            "\nthe last lines that were printed:\n[0.003007] pause listener/fin: fail 1\n",
-            "\nwhere the boards stand:\nat 0.003007\n\nsender\n  cpu: hart 0, runs\n    pc         0x80000024\n",
+            "\nthe last lines printed:\n[0.003007] pause listener/fin: fail 1\n",
+            "\nwhere the boards are:\nat 0.003007\n\nsender\n  cpu: hart 0, runs\n    pc         0x80000024\n",
             "resc:1: S1 unknown command\n",
-            "\nnot done after 0.1 s, 0.",
+            "\nnot finished after 0.1 s, 0.",
             "RuntimeError: none.resc has kept no snapshot: lab ended with 4: a file could not be read, none.resc",
-            "ValueError: 'a b' is no name of a variable",
+            "ValueError: 'a b' is not the name of a variable",
             "= 5 failed in ",
         ):
             self.assertIn(wanted, told)

@@ -22,13 +22,13 @@ JUNIT = """\
 -[0.000001] m0/uart: a
 +[0.000001] m0/uart: b
 
-the last lines that were printed:
+the last lines printed:
 [0.000001] m0/uart: b
 </failure><system-out>[0.000001] m0/uart: b
 </system-out></testcase>\
 <testcase classname="tests" name="refused" file="tests/refused.resc" time="T">\
 <error message="lab ended with 3: error: tests/refused.resc:1: S1 unknown command" type="lab">\
-the last lines that were printed:
+the last lines printed:
 error: tests/refused.resc:1: S1 unknown command
 </error><system-out>error: tests/refused.resc:1: S1 unknown command
 </system-out></testcase>\
@@ -173,7 +173,7 @@ class StandIn(WithStandIn):
     def test_a_test_has_its_time(self) -> None:
         self.make("a", "1\n", "1\n")
         self.write("a.resc.waits", "")
-        line = "failed  T s  a.resc: not done after 1.5 s\n"
+        line = "failed  T s  a.resc: not finished after 1.5 s\n"
         self.expect(["--timeout", "1.5", "a.resc"], 1, f"{line}0 passed, 1 failed\n")
         self.assertTrue(is_ended(int(self.read("a.resc.waits"))))
 
@@ -230,7 +230,7 @@ class StandIn(WithStandIn):
 
     def test_a_failure_that_is_kept_is_warned_of(self) -> None:
         self.make("a", "1\n", "[0.000100] pause m0/fin: fail 3\n")
-        told = "suite: a.log says that a test has failed, and the runs to come are wanted to fail it too: "
+        told = "suite: a.log says that a test has failed, so later runs are expected to fail it too: "
         self.assertEqual(self.call(SUITE, "--update", ".").stderr, f"{told}[0.000100] pause m0/fin: fail 3\n")
 
     def make_three(self) -> None:
@@ -252,7 +252,7 @@ class StandIn(WithStandIn):
         self.call(SUITE, "--junit", "results.xml", ".")
         text = self.read("results.xml")
         self.assertIn("<system-out>" + "".join(lines[79:99]) + "</system-out>", text)
-        self.assertIn("-[0.000099] m0/uart: 99\n\nthe last lines that were printed:\n" + "".join(lines[79:99]), text)
+        self.assertIn("-[0.000099] m0/uart: 99\n\nthe last lines printed:\n" + "".join(lines[79:99]), text)
 
     def test_results_are_told_as_tap(self) -> None:
         self.make_three()

@@ -107,7 +107,7 @@ class Shards(WithStandIn):
         self.write("entity.xml", '<!DOCTYPE a [<!ENTITY b "c">]><testsuite>&b;</testsuite>')
         self.write("cut.xml", self.read("1-3.xml")[:300])
         for words, told in {
-            ("1-3.xml",): "no results are given of shard 2/3, 3/3",
+            ("1-3.xml",): "there are no results of shard 2/3, 3/3",
             ("1-3.xml", "3-3.xml", "1-3.xml"): "shard 1/3 is given twice: 1-3.xml and 1-3.xml",
             ("1-3.xml", "1-2.xml"): "1-3.xml and 1-2.xml are of 3 and of 2 shards",
             (
@@ -118,7 +118,7 @@ class Shards(WithStandIn):
             ("none.xml",): "none.xml has no results as JUnit: 0 suites, and not one",
             ("entity.xml",): "entity.xml has no results as JUnit: it has a DOCTYPE",
             ("missing.xml",): "missing.xml cannot be read: No such file or directory",
-            ("tests",): "tests cannot be read: it is a folder, and no plain file",
+            ("tests",): "tests cannot be read: it is a folder, not a plain file",
         }.items():
             self.expect(["--merge", *words], 2, "", f"suite: {told}\n")
         self.assertIn("suite: cut.xml has no results as JUnit: ", self.call(SUITE, "--merge", "cut.xml").stderr)

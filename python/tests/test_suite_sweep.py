@@ -112,7 +112,7 @@ class Sweeps(WithLab):
             "a.resc n=": "n=: a value is a word without blanks, quotes and $",
             "a.resc n=2..1": "n=2..1 has no numbers, or more than 100000",
             "a.resc n=1..100001": "n=1..100001 has no numbers, or more than 100000",
-            "a.resc n=1..1000 m=1..1000": "these are 1000000 runs, and at most 100000 are made",
+            "a.resc n=1..1000 m=1..1000": "that makes 1000000 runs; the most is 100000",
             "quiet.resc n=1": "n=1 prints nothing, so there is nothing to compare",
             "a\udcff.resc n=1": "a\\xff.resc: a path in a script has no blanks, quotes or $, and is UTF-8",
             "a.resc n=\udcff": "n=\\xff: a value is a word without blanks, quotes and $",

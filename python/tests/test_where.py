@@ -118,7 +118,7 @@ class Reports(InRoom):
         self.assertIn("    pc         0x80000018\n", text)
         self.assertIn("  warning: ask.c: ", text)
         self.assertIn("  warning: none.elf: No such file or directory\n", text)
-        self.assertIn("  warning: wide.elf: it is no ELF file of 32 bits for RISC-V\n", text)
+        self.assertIn("  warning: wide.elf: it is not a 32-bit ELF file for RISC-V\n", text)
 
     def test_a_file_that_is_cut_off_or_no_plain_one_is_told(self) -> None:
         self.keep("ask.resc")
@@ -128,7 +128,7 @@ class Reports(InRoom):
         text = self.where("kept", "asker=-l.elf", "answerer=cut.elf", "answerer=/dev/zero")
         self.assertIn("    pc         0x80000018 has_byte ask.c:6, inlined in receive ask.c:11\n", text)
         self.assertIn("  warning: cut.elf: cannot be read: the headers of its sections end behind its end\n", text)
-        self.assertIn("  warning: /dev/zero: it is no plain file\n", text)
+        self.assertIn("  warning: /dev/zero: it is not a plain file\n", text)
 
     def test_json_is_the_same_as_data(self) -> None:
         told = json.loads(self.where("ask.resc", "--json"))
@@ -405,7 +405,7 @@ class Faults(InRoom):
         self.assertIn("    pc         0x80000018\n", text)
         self.assertIn("    stack    0 0x80000018\n             1 0x8000003c ?\n    zero", text)
         line = (
-            "functions and lines are not told, without pyelftools: `apt-get install python3-pyelftools` or"
+            "no functions and lines without pyelftools: `apt-get install python3-pyelftools` or"
             " `pip install pyelftools` for this Python"
         )
         self.assertTrue(text.endswith(f"\n\nwarning: {line}\n"), text)

@@ -146,10 +146,10 @@ def is_core(path: pathlib.Path) -> bool:
 def check(folder: pathlib.Path, names: Iterable[str]) -> None:
     """Refuses a folder that is none, and files of these names in it that are no core files."""
     if os.path.lexists(folder) and not folder.is_dir():
-        raise Refused(f"{folder}: it is no folder")
+        raise Refused(f"{folder}: it is not a folder")
     for path in (folder / name for name in names):
         if os.path.lexists(path) and not (path.is_file() and is_core(path)):
-            raise Refused(f"{path}: it is no core of a board, and stays as it is")
+            raise Refused(f"{path}: it is not a core of a board, and is left alone")
 
 
 def write(folder: pathlib.Path, files: Dict[str, bytes]) -> None:

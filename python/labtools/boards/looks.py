@@ -16,7 +16,7 @@ def time_of(word: str) -> int:
     try:
         return resc.a_time(word)
     except resc.Refused as fault:
-        raise argparse.ArgumentTypeError(f"{word} is no time") from fault
+        raise argparse.ArgumentTypeError(f"{word} is not a time") from fault
 
 
 def parser_of(head: Optional[str]) -> argparse.ArgumentParser:

@@ -27,7 +27,7 @@ def check(status: os.stat_result) -> None:
     """Refuses what is no plain file."""
     for is_so, kind in NOT_PLAIN:
         if is_so(status.st_mode):
-            raise OSError(errno.EINVAL, f"it is {kind}, and no plain file")
+            raise OSError(errno.EINVAL, f"it is {kind}, not a plain file")
 
 
 @contextlib.contextmanager

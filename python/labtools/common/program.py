@@ -99,7 +99,7 @@ def end_unless(is_well: bool, usage: str, fault: str = "these words are not take
 def number_of(word: str, usage: str, most: int = 999_999_999) -> int:
     """Returns the number that a word is, from 1 on, or ends the script."""
     is_number = re.fullmatch("[1-9][0-9]*", word) and len(word) <= len(str(most)) and int(word) <= most
-    end_unless(bool(is_number), usage, f"{word} is no number from 1 to {most}")
+    end_unless(bool(is_number), usage, f"{word} is not a number from 1 to {most}")
     return int(word)
 
 
@@ -107,7 +107,7 @@ def found_program(path: str) -> str:
     """Returns where a program is, or ends the script where it is none that can be run."""
     found = shutil.which(path)
     if found is None:
-        end_wrong(f"{path} is no program that can be run")
+        end_wrong(f"{path} is not a program that can be run")
     return os.path.abspath(found)
 
 

@@ -12,7 +12,7 @@ from typing import Any, Dict, Iterable, Iterator, List, Optional, Tuple
 
 
 NO_READER = (
-    "functions and lines are not told, without pyelftools: `apt-get install python3-pyelftools` or"
+    "no functions and lines without pyelftools: `apt-get install python3-pyelftools` or"
     " `pip install pyelftools` for this Python"
 )
 # The beginning of a file of 32 bits that has the lowest byte first, and the number of the machine.
@@ -114,12 +114,12 @@ def content_of(path: str) -> bytes:
     """Returns what a plain file holds that begins as an ELF file of 32 bits for RISC-V."""
     try:
         if os.path.exists(path) and not os.path.isfile(path):
-            raise NoElf(f"{path}: it is no plain file")
+            raise NoElf(f"{path}: it is not a plain file")
         data = pathlib.Path(path).read_bytes()
     except OSError as fault:
         raise NoElf(f"{path}: {fault.strerror}") from fault
     if len(data) < HEADER.size or data[: len(IDENT)] != IDENT or HEADER.unpack_from(data)[2] != RISCV:
-        raise NoElf(f"{path}: it is no ELF file of 32 bits for RISC-V")
+        raise NoElf(f"{path}: it is not a 32-bit ELF file for RISC-V")
     return data
 
 

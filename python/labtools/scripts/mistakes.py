@@ -53,7 +53,7 @@ def no_board(sight: Sight) -> List[str]:
 
 def other_board(sight: Sight) -> List[str]:
     names = [board.name for board in sight.scene.boards]
-    return [f"the boards are {listed(names)}"] if names else ["no board is made before this line"]
+    return [f"the boards are {listed(names)}"] if names else ["no board was made before this line"]
 
 
 def taken(sight: Sight) -> List[str]:
@@ -149,7 +149,7 @@ def range_fault(first: int, size: int, parts: Sequence[Part]) -> Optional[str]:
         return None
     device = next((part for part in parts if part.holds(first) and part.kind != "memory"), None)
     if device and size == 4:
-        return f"0x{first:08x} is a register of `{device.name}`, and a register is not reached by scripts"
+        return f"0x{first:08x} is a register of `{device.name}`, and scripts cannot reach registers"
     shown = f"0x{first:08x} to 0x{last:08x}" if size != 4 else f"0x{first:08x}"
     return f"no memory has {shown}: {memory_text(parts)}"
 
@@ -185,7 +185,7 @@ def address(sight: Sight) -> List[str]:
         return []
     step = 2 if words[1] == "PC" and sight.board and sight.board.has_compressed else 4
     if number % step:
-        return [f"0x{number:08x} is no multiple of {step}: 0x{number - number % step:08x} is the one before it"]
+        return [f"0x{number:08x} is not a multiple of {step}: 0x{number - number % step:08x} is the one before it"]
     fault = range_fault(number, 4, parts) if words[0] == "sysbus" else None
     return [fault] if fault else []
 
@@ -224,14 +224,14 @@ def no_snapshot(sight: Sight) -> List[str]:
 
 
 def bad_text(refused: Refused) -> List[str]:
-    """What may have written a file that is no UTF-8."""
+    """What may have written a file that is not UTF-8."""
     content = reads.content_of(refused.place.rpartition(":")[0])
     if content.startswith((b"\xff\xfe", b"\xfe\xff")):
         return ["the file is UTF-16"]
     try:
         content.decode()
     except UnicodeDecodeError as fault:
-        return [f"byte 0x{content[fault.start]:02x} is no UTF-8: the file may be Latin-1, or no text at all"]
+        return [f"byte 0x{content[fault.start]:02x} is not UTF-8: the file may be Latin-1, or no text at all"]
     return []
 
 
@@ -251,7 +251,7 @@ def types() -> List[str]:
 def other_type(refused: Refused) -> List[str]:
     entries = [item for item in repl.items_of(refused.text) if isinstance(item, repl.Entry)]
     pairs = [(entry.type_name, near(entry.type_name, types())) for entry in entries[:1]]
-    return [f"`{own}` is nearly `{nearly}`" for own, nearly in pairs if nearly]
+    return [f"`{own}`: did you mean `{nearly}`?" for own, nearly in pairs if nearly]
 
 
 def other_attribute(refused: Refused) -> List[str]:
@@ -259,7 +259,7 @@ def other_attribute(refused: Refused) -> List[str]:
     known = [attribute for type_name in types() for attribute in attributes_of(type_name)]
     asked = [found for found in repl.attributes_in(refused.text) if found not in known]
     pairs = [(found, near(found, known)) for found in asked]
-    return [f"`{found}` is nearly `{nearly}`" for found, nearly in pairs if nearly][:1]
+    return [f"`{found}`: did you mean `{nearly}`?" for found, nearly in pairs if nearly][:1]
 
 
 OF_LINES: Dict[str, Callable[[Refused], List[str]]] = {"P3": other_type, "P4": other_attribute, "S18": bad_text}

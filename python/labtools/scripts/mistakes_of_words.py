@@ -74,7 +74,7 @@ def unknown(scene: Scene) -> List[str]:
     own, other = found[0].split(), found[1].split()
     if len(own) == len(other) == 2 and own[0] == other[0]:
         own, other = own[1:], other[1:]
-    return [f"`{' '.join(own)}` is nearly `{' '.join(other)}`"]
+    return [f"`{' '.join(own)}`: did you mean `{' '.join(other)}`?"]
 
 
 # ---- other words (S2)
@@ -103,7 +103,7 @@ def path_fault(word: str, _: str = "") -> str:
     if plain.startswith(("$", "@http://", "@https://", "http://", "https://")):
         return ""
     if word == "@":
-        return "a path stands behind its `@` without a blank"
+        return "a path follows its `@` without a blank"
     if '"' in word and plain.startswith("@"):
         return f"a path has no quotes: `{plain}`"
     return f"a path begins with `@`: `@{plain}`"
@@ -118,18 +118,18 @@ def number_fault(word: str, elf: str) -> str:
     if BARE_HEXADECIMAL.fullmatch(plain):
         return f"a hexadecimal number begins with `0x`: `0x{plain}`"
     if NAME.fullmatch(plain):
-        return f"a name is no address: `riscv64-unknown-elf-nm {elf} | grep {plain}` prints it"
-    return f"`{word}` is no number: decimal digits, or hexadecimal ones behind `0x`, without a sign"
+        return f"a name is not an address: `riscv64-unknown-elf-nm {elf} | grep {plain}` prints it"
+    return f"`{word}` is not a number: write decimal digits, or hexadecimal ones after `0x`, without a sign"
 
 
 # What is wrong with a word that is not of its sort; the second word is the path of the board's ELF file.
 FAULTS: Dict[resc.Sort, Callable[[str, str], str]] = {
     resc.a_path: path_fault,
     resc.a_number: number_fault,
-    resc.a_speed: lambda word, _: f"{word} is no number from 1 to 1000",
+    resc.a_speed: lambda word, _: f"{word} is not a number from 1 to 1000",
     resc.a_truth: lambda word, _: f"`{word}` is neither `true` nor `false`",
     resc.a_macro: lambda word, _: f"a macro is run by its name behind `$`: `runMacro ${word}`",
-    resc.a_name: lambda word, _: f"`{word}` is no name: it has letters, digits, `_` and `-` alone",
+    resc.a_name: lambda word, _: f"`{word}` is not a name: it has only letters, digits, `_` and `-`",
 }
 
 
@@ -160,7 +160,7 @@ def fault_of_quotes(words: Sequence[str]) -> str:
     """A text between other signs than the double quote, or one that has no end."""
     other = next((word[0] for word in words if word[0] in OTHER_QUOTES), None)
     if other:
-        return f"{other} is no quote: a text stands between double quotes"
+        return f"{other} is not a quote: put a text between double quotes"
     return "a quote is not closed on its line" if " ".join(words).count('"') % 2 else ""
 
 
@@ -168,7 +168,7 @@ def swapped(words: Sequence[str], scene: Scene) -> str:
     """The words of `connector Connect` in the other order."""
     if list(words[:2]) != ["connector", "Connect"] or len(words) != 4 or words[2].strip('"') not in scene.hubs:
         return ""
-    return f"the device stands first, and then the hub: `connector Connect {words[3]} {words[2]}`"
+    return f"the device comes first, then the hub: `connector Connect {words[3]} {words[2]}`"
 
 
 def too_fast(words: Sequence[str], scene: Scene) -> str:
@@ -177,13 +177,13 @@ def too_fast(words: Sequence[str], scene: Scene) -> str:
     speed = resc.number_of(words[2]) if len(words) == 3 and words[1] == "PerformanceInMips" else None
     if not speed or speed > reads.SPEED_LIMIT or speed * count <= reads.SPEED_LIMIT:
         return ""
-    return f"{count} processors of {speed} do {count * speed} instructions in a microsecond, and 1000 are the most"
+    return f"{count} processors of {speed} do {count * speed} instructions in a microsecond, and the most is 1000"
 
 
 def fault_of_value(words: Sequence[str]) -> str:
     """What is wrong with a line that sets a variable."""
     if len(words) != 3:
-        return "one word stands behind the sign: a text with blanks in quotes, and nothing after it"
+        return "one word follows the sign: a text with blanks in quotes, and nothing after it"
     return path_fault(words[2]) if words[2].startswith(("@", '"@')) else ""
 
 
@@ -222,7 +222,7 @@ def not_set(what: str, name: str, others: Sequence[str], kind: Sequence[str], is
     if name in kind:
         return [f"`${name}` {is_other}"]
     nearly = near(name, others)
-    return [f"{what} `${name}`" + (f", which is nearly `${nearly}`" if nearly else "")]
+    return [f"{what} `${name}`" + (f": did you mean `${nearly}`?" if nearly else "")]
 
 
 # ---- times (S10)
@@ -241,7 +241,7 @@ WITH_UNIT = re.compile(rf"({PLAIN.pattern}) *([a-zµμ]+)", re.IGNORECASE)
 WITH_EXPONENT = re.compile(rf"{PLAIN.pattern}[eE][+-]?[0-9]{{1,2}}")
 # Texts that say no time: the first form that fits, and what is wrong with it.
 NO_TIMES = (
-    (r"[0-9]{1,10}\.[0-9]{7,10}", "a microsecond is the least: {0} has more than six digits after its point"),
+    (r"[0-9]{1,10}\.[0-9]{7,10}", "the shortest time is a microsecond: {0} has more than six digits after its point"),
     (r"[0-9]+:[0-9]+(?:\.[0-9]+)?", "{0} lacks the hours, 0:{0}"),
     (r"[0-9]+:[0-9]+:[0-9]+(?:\.[0-9]+)?", "minutes and seconds are at most 59: {0}"),
     (r"[+-].*", "a time has no sign: {0}"),
@@ -277,7 +277,7 @@ def fault_of_time(text: str, sort: resc.Sort) -> str:
     told = in_other_form(text) or next(no_times, "")
     if told or not PLAIN.fullmatch(text):
         return told
-    return f"{LIMITS.get(sort, '10,000 seconds are the most')}, and not {text}"
+    return f"{LIMITS.get(sort, 'a time is at most 10,000 seconds')}, and not {text}"
 
 
 def time(scene: Scene) -> List[str]:

@@ -217,17 +217,17 @@ def where(runs: lab_runs.Runs, script: str) -> str:
             check=False,
         )
     except subprocess.TimeoutExpired:
-        return f"where the boards stand is not known after {WHERE_SECONDS} s"
+        return f"cannot tell where the boards are after {WHERE_SECONDS} s"
     lines = kept_logs.lines_of(kept_logs.text_of(ran.stdout))
     if ran.returncode != 0:
-        return f"where the boards stand is not known: {' '.join(lines[-1:]).partition(': ')[2]}"
+        return f"cannot tell where the boards are: {' '.join(lines[-1:]).partition(': ')[2]}"
     more = [f".. and {len(lines) - WHERE_LINES} lines more"] if len(lines) > WHERE_LINES else []
-    return "\n".join(["where the boards stand:", *lines[:WHERE_LINES], *more])
+    return "\n".join(["where the boards are:", *lines[:WHERE_LINES], *more])
 
 
 def checked_name(name: str) -> str:
     if resc.variable_of(f"${name}") is None:
-        raise ValueError(f"{name!r} is no name of a variable")
+        raise ValueError(f"{name!r} is not the name of a variable")
     return name
 
 
@@ -235,6 +235,6 @@ def report_of(run: Run) -> str:
     """What is to be seen of a run where a test has failed."""
     ended = run.fault or f"lab ended with {run.status}"
     log = "\n".join(kept_logs.lines_of(run.log)[-kept_logs.LAST :])
-    parts = [f"{ended}, {run.seconds:.2f} s", log and f"the last lines that were printed:\n{log}"]
+    parts = [f"{ended}, {run.seconds:.2f} s", log and f"the last lines printed:\n{log}"]
     parts += [] if run.ended_by else [where(run.runs, run.script)]
     return "\n\n".join(part for part in parts if part)

@@ -150,7 +150,7 @@ class Preparations:
         if not sums:
             return "first"
         if not SUMS.fullmatch(sums):
-            raise Undone(f"{record_of(script)} is no list of sums: remove it, and the script is run again")
+            raise Undone(f"{record_of(script)} is not a list of sums: remove it, and the script is run again")
         for line in sums.split(b"\n")[:-1]:
             path = os.fsdecode(line.partition(b"  ")[2])
             if not os.path.exists(self.runs.folder / path):

@@ -99,7 +99,7 @@ def times_in(path: pathlib.Path) -> Dict[str, int]:
     try:
         return {case.get("file", ""): round(1000 * float(case.get("time", "0"))) for case in cases}
     except (ValueError, OverflowError) as fault:
-        raise Undone(f"{path}: a time is no number") from fault
+        raise Undone(f"{path}: a time is not a number") from fault
 
 
 def suite_of(path: pathlib.Path) -> ElementTree.Element:
@@ -169,7 +169,7 @@ def results_in(paths: Sequence[pathlib.Path]) -> List[Result]:
     missing = [str(Shard(it, count)) for it in range(1, count + 1) if it not in results]
     if missing:
         more = f" and {len(missing) - 9} more" if len(missing) > 9 else ""
-        raise Undone(f"no results are given of shard {', '.join(missing[:9])}{more}")
+        raise Undone(f"there are no results of shard {', '.join(missing[:9])}{more}")
     return [results[number] for number in sorted(results)]
 
 

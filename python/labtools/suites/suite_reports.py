@@ -38,7 +38,7 @@ def in_words(outcome: Outcome) -> str:
     """What a reader wants to see of a test that has not passed."""
     parts = [outcome.finding.difference]
     if outcome.last_lines:
-        parts.append(f"the last lines that were printed:\n{outcome.last_lines}")
+        parts.append(f"the last lines printed:\n{outcome.last_lines}")
     return shown_lines("\n".join(part for part in parts if part))
 
 

@@ -99,7 +99,7 @@ def fault_of(ran: lab_runs.Ran, script: str, runs: lab_runs.Runs, seconds: Optio
     """What is wrong with a run of a script that is not done, whatever it has printed. It had these seconds, or those of
     all runs."""
     if ran.ended_by == lab_runs.TIME:
-        return Finding(FAILED, "timeout", f"not done after {runs.seconds if seconds is None else seconds:g} s")
+        return Finding(FAILED, "timeout", f"not finished after {runs.seconds if seconds is None else seconds:g} s")
     if ran.ended_by == lab_runs.SIZE:
         polls = ": it polls where nothing stands?" if kept_logs.polls_nothing(ran.log) else ""
         return Finding(FAILED, "size", f"printed more than {runs.most} bytes{polls}")

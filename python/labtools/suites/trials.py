@@ -54,9 +54,9 @@ def tests_in(paths: Sequence[str]) -> List[str]:
 def warnings_of(test: str, folder: pathlib.Path, log: BinaryIO) -> Iterator[str]:
     """What is to be said of the log that is kept of a test."""
     for line in itertools.islice(kept_logs.failures_in(log), WARNED):
-        yield f"says that a test has failed, and the runs to come are wanted to fail it too: {line}"
+        yield f"says that a test has failed, so later runs are expected to fail it too: {line}"
     if not kept_logs.has_verdict(log) and finishers.has_finisher(test, folder):
-        yield "has no verdict (`pause .. pass`), though a board has a finisher: did the test come to its end?"
+        yield "has no verdict (`pause .. pass`), though a board has a finisher: did the test finish?"
 
 
 class Trials:
