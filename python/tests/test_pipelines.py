@@ -73,7 +73,9 @@ class Pipelines(Settings):
 
     def test_gitlab_tries_all_but_schedules_and_proves_on_schedules_with_the_kit(self) -> None:
         jobs = self.gitlab_jobs()
-        self.assertEqual({name: self.gitlab_commands(it) for name, it in jobs.items()}, {"test": ["./test"], "gate": [".ci/run"]})
+        self.assertEqual(
+            {name: self.gitlab_commands(it) for name, it in jobs.items()}, {"test": ["./test"], "gate": [".ci/run"]}
+        )
         for job in jobs.values():
             self.assertEqual(missing(self.gitlab_commands(job)), [])
         self.assertEqual(jobs["gate"]["tags"], [KIT])
