@@ -130,6 +130,10 @@ def changelog() -> bytes:
     return (TOP / "packaging/changelog").read_bytes()
 
 
+def changelog_as_installed() -> bytes:
+    return named_as_installed(changelog().decode("utf-8"), names_of_tools()).encode()
+
+
 def archive_tree(program: bytes, sources: str) -> Tree:
     """Returns the files of the archive."""
     tree = {**commands(program, sources), **documents()}
@@ -158,7 +162,7 @@ def debian_pages() -> Tree:
         **{f"usr/share/man/man1/{name}.1.gz": Entry(zipped(page)) for name, page in pages.items()},
         f"{completions}/lab": Entry(completion(answers())),
         **{f"{completions}/lab-{name}": link("lab") for name in said},
-        "usr/share/doc/lab/changelog.gz": Entry(zipped(changelog())),
+        "usr/share/doc/lab/changelog.gz": Entry(zipped(changelog_as_installed())),
         "usr/share/lintian/overrides/lab": Entry((TOP / "packaging/lintian-overrides").read_bytes()),
     }
 

@@ -1,4 +1,5 @@
-"""Runs what the documents show: README.md and docs/. Prints what is not so, and what it passes over.
+"""Runs what the documents show: README.md and the other pages at the top, and docs/. Prints what is not so, and what it
+passes over.
 
     tools/recipes [DOCUMENT ..]
 
@@ -17,8 +18,8 @@ Each document has a room of its own, a new folder in which its commands run. `la
 LAB set, `lab` is ./lab with that program. What is passed over is told by a line that begins with `passed over`. It ends
 with 0, with 1 where something is not so, and with 2 where a document cannot be read.
 """
-import glob
 import os
+import pathlib
 import re
 import shutil
 import subprocess
@@ -166,9 +167,13 @@ def is_so(document: str, text: str, program: str) -> bool:
     return is_well
 
 
+def all_documents() -> List[pathlib.Path]:
+    """Returns the pages of the repository: those at its top, and those of docs/."""
+    return [*sorted(TOP.glob("*.md")), *sorted(TOP.glob("docs/*.md"))]
+
+
 def main(documents: List[str]) -> int:
-    if not documents:
-        documents = [f"{TOP}/README.md", *sorted(glob.glob(f"{TOP}/docs/*.md"))]
+    documents = documents or [str(it) for it in all_documents()]
     texts = [text_of(it) for it in documents]
     program = path_of_program()
     return 0 if all([is_so(it, text, program) for it, text in zip(documents, texts)]) else 1

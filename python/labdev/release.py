@@ -1,22 +1,31 @@
 """Puts the program that was built here into the repository, as bin/lab, and two sums into bin/lab.sources: that of the
 sources that it was built from, and its own.
 
-    tools/release            copies crates/lab_cli/out/lab_cli, which tools/build or .ci/run has built
-    tools/release --check    compares bin/lab with it, byte for byte, and changes nothing
+    tools/release                    copies crates/lab_cli/out/lab_cli, which tools/build or .ci/run has built
+    tools/release --check            compares bin/lab with it, byte for byte, and changes nothing
+    tools/release --version X.Y.Z    gives the repository a new version, and copies no program
 
-Both refuse a program that was not built from the present sources, or that was built again by itself since. Run it once
-where the sources of the program have changed, before they land. It ends with 0, with 1 where it refuses or where they
-differ, saying how, and with 2 where it is called otherwise.
+The first two refuse a program that was not built from the present sources, or that was built again by itself since. Run
+the first once where the sources of the program have changed, before they land.
+
+--version writes VERSION and python/VERSION, gives the part Unreleased of CHANGELOG.md the version and today's date,
+puts the same changes into packaging/changelog, and changes the version in README.md and docs/PROJECT.md. It refuses a
+version that is not higher than the one in VERSION, and an empty part Unreleased; then no file changes.
+
+It ends with 0, with 1 where it refuses or where the programs differ, saying how, and with 2 where its words are wrong.
 """
+import functools
 import os
 import pathlib
 import subprocess
 import tempfile
-from typing import List
+from typing import Callable, List
 
 from labdev.released import Sums, fault_of, sum_of, sum_of_sources, sums_kept_with
+from labdev.versions import NoVersion, is_version, texts_with
 from labtools.common.program import TOP, end_unless, end_wrong
 
+USAGE = "[--check | --version X.Y.Z]"
 BUILT = TOP / "crates/lab_cli/out/lab_cli"
 RELEASED = TOP / "bin/lab"
 # What the kit writes into each program that it has proved.
@@ -91,9 +100,27 @@ def compare() -> None:
         raise Refused("bin/lab may not be executed")
 
 
+def give_version(version: str) -> None:
+    """Writes a new version into each file that has one. All texts are made before the first file changes."""
+    for path, text in texts_with(TOP, version).items():
+        put(TOP / path, text.encode("utf-8"), (TOP / path).stat().st_mode & 0o777)
+    print(f"lab is version {version}: read what has changed, and commit it")
+
+
+def work_of(words: List[str]) -> Callable[[], None]:
+    """Returns what these words ask for, or ends the script."""
+    if not words:
+        return release
+    if words == ["--check"]:
+        return compare
+    end_unless(len(words) == 2 and words[0] == "--version", USAGE)
+    end_unless(is_version(words[1]), USAGE, f"{words[1]} is no version of three numbers, as 1.2.0")
+    return functools.partial(give_version, words[1])
+
+
 def main(words: List[str]) -> None:
-    end_unless(words in ([], ["--check"]), "[--check]")
+    work = work_of(words)
     try:
-        compare() if words else release()
-    except (Refused, OSError, subprocess.CalledProcessError) as fault:
+        work()
+    except (Refused, NoVersion, OSError, subprocess.CalledProcessError) as fault:
         end_wrong(fault, 1)

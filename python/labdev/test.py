@@ -25,6 +25,7 @@ import time
 from typing import Dict, List, Optional
 
 from labdev import trials
+from labdev.recipes import all_documents
 from labdev.released import fault_of
 from labtools.common.program import TOP, drop_output, parser_of, path_of_program
 
@@ -89,8 +90,7 @@ def tests_of_documents() -> List[Test]:
     """Returns the tests of what the documents show."""
     if not (TOP / "tools/recipes").exists():
         return []
-    documents = [TOP / "README.md", *sorted(TOP.glob("docs/*.md"))]
-    return [Test(f"recipes/{it.stem}", ["tools/recipes", str(it)], 2.0) for it in documents]
+    return [Test(f"recipes/{it.stem}", ["tools/recipes", str(it)], 2.0) for it in all_documents()]
 
 
 def all_tests(is_released: bool) -> List[Test]:

@@ -11,6 +11,8 @@ import unittest
 from typing import Dict, Iterator, List, Set, Tuple
 
 from labdev.contracts import Crate, clauses_of, crates_below, named
+from labdev.recipes import all_documents
+from labdev.versions import items_of, split_changes
 from labtools.common.manual import rows_after
 from labtools.common.program import TOP
 
@@ -222,7 +224,7 @@ class Guide(unittest.TestCase):
 
     def test_numbers_of_crates_and_edits_stand_where_they_were_measured(self) -> None:
         numbers = re.compile(r"\b([0-9]+|[a-z]+ty(?:-[a-z]+)?) (?:crates|edits|must-fail edits)\b")
-        for path in [TOP / "README.md", *sorted(TOP.glob("docs/*.md"))]:
+        for path in all_documents():
             told = [it for it in numbers.findall(path.read_text(encoding="utf-8")) if it not in ("empty", "dirty")]
             with self.subTest(document=path.name):
                 self.assertTrue(not told or path == TOP / MEASURED, told)
@@ -344,13 +346,43 @@ def links_in(text: str) -> Iterator[Tuple[str, str]]:
 class Links(unittest.TestCase):
     def test_each_document_and_section_that_is_named_is_there(self) -> None:
         self.assertEqual(list(links_in('docs/A.md ("B c") and\ndocs/D.md')), [("docs/A.md", "B c"), ("docs/D.md", "")])
-        for page in [TOP / "README.md", *sorted(TOP.glob("docs/*.md")), *sorted(TOP.glob("demo/*/*.md"))]:
+        for page in [*all_documents(), *sorted(TOP.glob("demo/*/*.md"))]:
             for path, section in links_in(page.read_text(encoding="utf-8")):
                 with self.subTest(page=page.name, path=path, section=section):
                     self.assertTrue((TOP / path).is_file())
                     headings = re.findall(r"(?m)^#+ (.*)$|^\*\*([^*]+)\*\*", text_of(path))
                     plain = [re.sub(r"[`.]", "", first or second) for first, second in headings]
                     self.assertTrue(not section or re.sub(r"[`.]", "", section) in plain, plain)
+
+
+class Versions(unittest.TestCase):
+    """What pages say of the version, and of what changed with it."""
+
+    @property
+    def version(self) -> str:
+        return text_of("VERSION").strip()
+
+    def test_the_readme_describes_this_version(self) -> None:
+        self.assertEqual(re.findall(r"\bversion (\d+\.\d+\.\d+)", text_of("README.md")), [self.version])
+
+    def test_the_wheel_that_is_installed_has_this_version(self) -> None:
+        self.assertEqual(re.findall(r"\blab_emulator-(\d[\w.]*)-py3", text_of("docs/PROJECT.md")), [self.version])
+
+    def test_the_changes_are_of_versions_that_fall_down_to_the_first(self) -> None:
+        _, new, rest = split_changes(text_of("CHANGELOG.md"))
+        headings = re.findall(r"(?m)^## (.*)$", rest)
+        found = [re.fullmatch(r"\[(\d+)\.(\d+)\.(\d+)\] - \d{4}-\d\d-\d\d", it) for it in headings]
+        numbers = [tuple(map(int, it.groups())) for it in found if it]
+        self.assertEqual(len(numbers), len(headings))
+        self.assertEqual(".".join(map(str, numbers[0])), self.version)
+        self.assertEqual(numbers, sorted(set(numbers), reverse=True))
+        kinds = {"Added", "Changed", "Deprecated", "Removed", "Fixed", "Security"}
+        self.assertLessEqual({text for kind, text in items_of(f"{new}\n{rest}") if kind == "#"}, kinds)
+
+    def test_debian_has_the_same_versions(self) -> None:
+        told = re.findall(r"(?m)^lab \((.*)\) ", text_of("packaging/changelog"))
+        _, _, rest = split_changes(text_of("CHANGELOG.md"))
+        self.assertEqual(told, re.findall(r"(?m)^## \[(.*)\]", rest))
 
 
 def quotes_of(document: str) -> Iterator[Tuple[str, str, str]]:

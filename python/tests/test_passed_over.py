@@ -1,5 +1,6 @@
 """Tries which tests say by a line, as ./test looks for it, what they pass over since a program is not installed, or
 root may do all. Their path has bash and this Python alone."""
+import importlib.util
 import os
 import shutil
 import sys
@@ -20,6 +21,7 @@ ROWS = (
     ("the words of the loops, without an assembler for RISC-V", "speed -k words_are_those"),
 )
 WITHOUT_PYELFTOOLS = (("the reports, without pyelftools", "where.Reports"),)
+WITHOUT_PYYAML = (("the settings of GitHub and GitLab, without PyYAML", "pipelines.Pipelines"),)
 ROWS_OF_ROOT = (
     ("a folder that may not be entered, as root, who may read all", "explain -k may_not_be_entered"),
     ("a device of the system, as root, who could replace it", "store -k device_of_the_system"),
@@ -34,7 +36,9 @@ class PassedOver(Commands):
         self.environment["LAB"] = path_of_program()
         python = str(TOP / "python")
         rows = [*ROWS, *(ROWS_OF_ROOT if os.geteuid() == 0 else ())]
-        for what, words in [*rows, *(() if has_pyelftools(sys.executable) else WITHOUT_PYELFTOOLS)]:
+        rows += () if has_pyelftools(sys.executable) else WITHOUT_PYELFTOOLS
+        rows += () if importlib.util.find_spec("yaml") else WITHOUT_PYYAML
+        for what, words in rows:
             with self.subTest(words=words):
                 test, *rest = words.split()
                 command = [sys.executable, "-m", "labdev.quiet", f"tests.test_{test}", *rest]
