@@ -129,7 +129,7 @@ FAULTS: Dict[resc.Sort, Callable[[str, str], str]] = {
     resc.a_speed: lambda word, _: f"{word} is not a number from 1 to 1000",
     resc.a_truth: lambda word, _: f"`{word}` is neither `true` nor `false`",
     resc.a_macro: lambda word, _: f"a macro is run by its name behind `$`: `runMacro ${word}`",
-    resc.a_name: lambda word, _: f"`{word}` is not a name: it has only letters, digits, `_` and `-`",
+    resc.a_name: lambda word, _: f"`{word}` is not a name: names have only letters, digits, `_` and `-`",
 }
 
 
