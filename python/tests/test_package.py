@@ -375,8 +375,8 @@ class Packages(unittest.TestCase):
         self.assertTrue(gzip.decompress(packed).decode().startswith(first))
 
     def test_the_changes_name_commands_as_they_are_called_where_they_are_installed(self) -> None:
-        with unittest.mock.patch.object(package, "changelog", lambda: b"  * tools/log splits a log of ./lab.\n"):
-            self.assertEqual(package.changelog_as_installed(), b"  * lab-log splits a log of lab.\n")
+        with unittest.mock.patch.object(package, "changelog", lambda: b"  * ./lab says, and tools/log splits.\n"):
+            self.assertEqual(package.changelog_as_installed(), b"  * lab says, and lab-log splits.\n")
 
     def test_lintian_finds_nothing_but_what_is_told_with_its_reason(self) -> None:
         told = (TOP / "packaging/lintian-overrides").read_text(encoding="utf-8").splitlines()

@@ -21,7 +21,7 @@ NO_JOBS = {"workflow", "default", "stages", "variables", "include"}
 
 def commands_in(lines: str) -> List[str]:
     """Returns the commands of this repository that lines of a shell start: the words with a slash that begin them."""
-    firsts = (words[0] for words in map(str.split, lines.replace("\\\n", " ").splitlines()) if words)
+    firsts = [line.split()[0] for line in lines.replace("\\\n", " ").splitlines() if line.strip()]
     return [it for it in firsts if "/" in it]
 
 
