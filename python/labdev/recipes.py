@@ -168,7 +168,7 @@ def is_so(document: str, text: str, program: str) -> bool:
 
 def main(documents: List[str]) -> int:
     if not documents:
-        documents = [f"{TOP}/README.md", *sorted(glob.glob(f"{TOP}/docs/*.md"))]
+        documents = [f"{TOP}/README.md", *sorted(glob.glob(f"{TOP}/docs/**/*.md", recursive=True))]
     texts = [text_of(it) for it in documents]
     program = path_of_program()
     return 0 if all([is_so(it, text, program) for it, text in zip(documents, texts)]) else 1

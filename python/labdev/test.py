@@ -90,7 +90,9 @@ def tests_of_documents() -> List[Test]:
     if not (TOP / "tools/recipes").exists():
         return []
     documents = [TOP / "README.md", *sorted(TOP.glob("docs/*.md"))]
-    return [Test(f"recipes/{it.stem}", ["tools/recipes", str(it)], 2.0) for it in documents]
+    tests = [Test(f"recipes/{it.stem}", ["tools/recipes", str(it)], 2.0) for it in documents]
+    decisions = [str(it) for it in sorted(TOP.glob("docs/decisions/*.md"))]
+    return [*tests, Test("recipes/decisions", ["tools/recipes", *decisions], 2.0)]
 
 
 def all_tests(is_released: bool) -> List[Test]:

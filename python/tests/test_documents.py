@@ -18,6 +18,7 @@ NAME = re.compile(r"`((?:\w+::)?\w+)`")
 TESTING = "docs/TESTING.md"
 GUIDE = "docs/DEVELOPING.md"
 MEASURED = "docs/MEASURED.md"
+DECISIONS = "docs/decisions"
 # What gives no answer, and nothing is promised of it.
 NO_ANSWER = {"Gate::enter"}
 
@@ -222,7 +223,7 @@ class Guide(unittest.TestCase):
 
     def test_numbers_of_crates_and_edits_stand_where_they_were_measured(self) -> None:
         numbers = re.compile(r"\b([0-9]+|[a-z]+ty(?:-[a-z]+)?) (?:crates|edits|must-fail edits)\b")
-        for path in [TOP / "README.md", *sorted(TOP.glob("docs/*.md"))]:
+        for path in [TOP / "README.md", *sorted(TOP.glob("docs/**/*.md"))]:
             told = [it for it in numbers.findall(path.read_text(encoding="utf-8")) if it not in ("empty", "dirty")]
             with self.subTest(document=path.name):
                 self.assertTrue(not told or path == TOP / MEASURED, told)
@@ -335,7 +336,7 @@ class Sources(unittest.TestCase):
 def links_in(text: str) -> Iterator[Tuple[str, str]]:
     """Yields the documents that a text names, each with the section in quotes that it names with it, or nothing."""
     plain = " ".join(text.split())
-    for path, first, second in re.findall(r'(docs/[A-Z_]+\.md)(?: \("([^"]+)"|, "([^"]+)")?', plain):
+    for path, first, second in re.findall(r'(docs/[\w/-]+\.md)(?: \("([^"]+)"|, "([^"]+)")?', plain):
         yield path, first or second
     for first, path in re.findall(r'"([^"]{3,60})" in (docs/[A-Z_]+\.md)', plain):
         yield path, first
@@ -344,13 +345,43 @@ def links_in(text: str) -> Iterator[Tuple[str, str]]:
 class Links(unittest.TestCase):
     def test_each_document_and_section_that_is_named_is_there(self) -> None:
         self.assertEqual(list(links_in('docs/A.md ("B c") and\ndocs/D.md')), [("docs/A.md", "B c"), ("docs/D.md", "")])
-        for page in [TOP / "README.md", *sorted(TOP.glob("docs/*.md")), *sorted(TOP.glob("demo/*/*.md"))]:
+        for page in [TOP / "README.md", *sorted(TOP.glob("docs/**/*.md")), *sorted(TOP.glob("demo/*/*.md"))]:
             for path, section in links_in(page.read_text(encoding="utf-8")):
                 with self.subTest(page=page.name, path=path, section=section):
                     self.assertTrue((TOP / path).is_file())
                     headings = re.findall(r"(?m)^#+ (.*)$|^\*\*([^*]+)\*\*", text_of(path))
                     plain = [re.sub(r"[`.]", "", first or second) for first, second in headings]
                     self.assertTrue(not section or re.sub(r"[`.]", "", section) in plain, plain)
+
+
+def index_of_decisions() -> List[Tuple[str, str, str]]:
+    """Returns the number, the file and the title of each row of the index."""
+    return re.findall(r"(?m)^\| \[(\d{4})\]\(([^)]+)\) \| ([^|]+) \| [^|]+ \|$", text_of(f"{DECISIONS}/README.md"))
+
+
+class Decisions(unittest.TestCase):
+    def test_the_index_lists_each_record_by_its_number_and_title(self) -> None:
+        records = sorted((TOP / DECISIONS).glob("[0-9]*.md"))
+        found = [(it.name[:4], it.name, it.read_text(encoding="utf-8").split("\n")[0]) for it in records]
+        told = [(number, file, f"# {number}. {title}") for number, file, title in index_of_decisions()]
+        self.assertEqual(found, told)
+        self.assertEqual([number for number, _, _ in told], [f"{it:04}" for it in range(1, len(told) + 1)])
+
+    def test_each_record_has_its_date_status_and_parts(self) -> None:
+        head = r"# .+\n\n- Date: 2\d{3}-\d\d-\d\d\n- Status: (accepted|superseded by (\d{4}))\n\n## Context\n"
+        numbers = {number for number, _, _ in index_of_decisions()}
+        for number, file, _ in index_of_decisions():
+            with self.subTest(record=file):
+                text = text_of(f"{DECISIONS}/{file}")
+                found = re.match(head, text)
+                self.assertTrue(found and (not found[2] or found[2] in numbers - {number}))
+                self.assertIn("\n## Decision\n", text)
+
+    def test_each_relative_link_resolves(self) -> None:
+        for page in sorted((TOP / DECISIONS).glob("*.md")):
+            for target in re.findall(r"\]\((?!https?:)([^)#]+)", page.read_text(encoding="utf-8")):
+                with self.subTest(page=page.name, target=target):
+                    self.assertTrue((page.parent / target).is_file())
 
 
 def quotes_of(document: str) -> Iterator[Tuple[str, str, str]]:
