@@ -168,8 +168,8 @@ def is_so(document: str, text: str, program: str) -> bool:
 
 
 def all_documents() -> List[pathlib.Path]:
-    """Returns the pages of the repository: those at its top, and those of docs/."""
-    return [*sorted(TOP.glob("*.md")), *sorted(TOP.glob("docs/*.md"))]
+    """Returns the pages of the repository: those at its top, and those of docs/ and its folders."""
+    return [*sorted(TOP.glob("*.md")), *sorted(TOP.glob("docs/**/*.md"))]
 
 
 def main(documents: List[str]) -> int:

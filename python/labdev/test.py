@@ -30,6 +30,7 @@ from labdev.released import fault_of
 from labtools.common.program import TOP, drop_output, parser_of, path_of_program
 
 RELEASED = TOP / "bin/lab"
+DECISIONS = TOP / "docs/decisions"
 # What a test may take at most, and after how many seconds it is told again how far they are.
 SECONDS = 900
 TOLD_EACH = 10
@@ -90,7 +91,10 @@ def tests_of_documents() -> List[Test]:
     """Returns the tests of what the documents show."""
     if not (TOP / "tools/recipes").exists():
         return []
-    return [Test(f"recipes/{it.stem}", ["tools/recipes", str(it)], 2.0) for it in all_documents()]
+    decisions = [it for it in all_documents() if it.parent == DECISIONS]
+    documents = [it for it in all_documents() if it not in decisions]
+    tests = [Test(f"recipes/{it.stem}", ["tools/recipes", str(it)], 2.0) for it in documents]
+    return [*tests, Test("recipes/decisions", ["tools/recipes", *map(str, decisions)], 2.0)]
 
 
 def all_tests(is_released: bool) -> List[Test]:

@@ -1,7 +1,7 @@
 """Tries that what docs/ names stands in the sources: the contracts of docs/PROMISES.md, the wrong bodies of the page on
 tests, the files and crates of docs/ARCHITECTURE.md, the lemmas that are cited above their crate, and quoted lines. That
-a number which stands in several crates is one number. And that lines of the crates have at most 120 columns. It reads
-texts alone and needs no program."""
+a number which stands in several crates is one number. That the records of docs/decisions have their form, and their
+place in the index. And that lines of the crates have at most 120 columns. It reads texts alone and needs no program."""
 import collections
 import itertools
 import pathlib
@@ -20,6 +20,7 @@ NAME = re.compile(r"`((?:\w+::)?\w+)`")
 TESTING = "docs/TESTING.md"
 GUIDE = "docs/DEVELOPING.md"
 MEASURED = "docs/MEASURED.md"
+DECISIONS = "docs/decisions"
 # What gives no answer, and nothing is promised of it.
 NO_ANSWER = {"Gate::enter"}
 
@@ -337,7 +338,7 @@ class Sources(unittest.TestCase):
 def links_in(text: str) -> Iterator[Tuple[str, str]]:
     """Yields the documents that a text names, each with the section in quotes that it names with it, or nothing."""
     plain = " ".join(text.split())
-    for path, first, second in re.findall(r'(docs/[A-Z_]+\.md)(?: \("([^"]+)"|, "([^"]+)")?', plain):
+    for path, first, second in re.findall(r'(docs/[\w/-]+\.md)(?: \("([^"]+)"|, "([^"]+)")?', plain):
         yield path, first or second
     for first, path in re.findall(r'"([^"]{3,60})" in (docs/[A-Z_]+\.md)', plain):
         yield path, first
@@ -383,6 +384,36 @@ class Versions(unittest.TestCase):
         told = re.findall(r"(?m)^lab \((.*)\) ", text_of("packaging/changelog"))
         _, _, rest = split_changes(text_of("CHANGELOG.md"))
         self.assertEqual(told, re.findall(r"(?m)^## \[(.*)\]", rest))
+
+
+def index_of_decisions() -> List[Tuple[str, str, str]]:
+    """Returns the number, the file and the title of each row of the index."""
+    return re.findall(r"(?m)^\| \[(\d{4})\]\(([^)]+)\) \| ([^|]+) \| [^|]+ \|$", text_of(f"{DECISIONS}/README.md"))
+
+
+class Decisions(unittest.TestCase):
+    def test_the_index_lists_each_record_by_its_number_and_title(self) -> None:
+        records = sorted((TOP / DECISIONS).glob("[0-9]*.md"))
+        found = [(it.name[:4], it.name, it.read_text(encoding="utf-8").split("\n")[0]) for it in records]
+        told = [(number, file, f"# {number}. {title}") for number, file, title in index_of_decisions()]
+        self.assertEqual(found, told)
+        self.assertEqual([number for number, _, _ in told], [f"{it:04}" for it in range(1, len(told) + 1)])
+
+    def test_each_record_has_its_date_status_and_parts(self) -> None:
+        head = r"# .+\n\n- Date: 2\d{3}-\d\d-\d\d\n- Status: (accepted|superseded by (\d{4}))\n\n## Context\n"
+        numbers = {number for number, _, _ in index_of_decisions()}
+        for number, file, _ in index_of_decisions():
+            with self.subTest(record=file):
+                text = text_of(f"{DECISIONS}/{file}")
+                found = re.match(head, text)
+                self.assertTrue(found and (not found[2] or found[2] in numbers - {number}))
+                self.assertIn("\n## Decision\n", text)
+
+    def test_each_relative_link_resolves(self) -> None:
+        for page in sorted((TOP / DECISIONS).glob("*.md")):
+            for target in re.findall(r"\]\((?!https?:)([^)#]+)", page.read_text(encoding="utf-8")):
+                with self.subTest(page=page.name, target=target):
+                    self.assertTrue((page.parent / target).is_file())
 
 
 def quotes_of(document: str) -> Iterator[Tuple[str, str, str]]:
