@@ -1,4 +1,6 @@
 """Tries what tools/crates prints, on crates of a few lines. The layers and the tables were written down by hand."""
+import contextlib
+import io
 import pathlib
 import tempfile
 import unittest
@@ -60,6 +62,9 @@ class Crates(unittest.TestCase):
     def test_a_crate_that_does_not_say_what_it_is_ends_the_script(self) -> None:
         for source in "pub mod low;\n", "//!\n//! Late.\n", "//! No sentence\n":
             (self.folder / "low/src/lib.rt").write_text(source, encoding="utf-8")
-            with self.subTest(source=source), self.assertRaises(SystemExit) as ended:
-                self.printed("--heads")
-            self.assertEqual(ended.exception.code, 1)
+            told = io.StringIO()
+            with self.subTest(source=source), contextlib.redirect_stderr(told):
+                with self.assertRaises(SystemExit) as ended:
+                    self.printed("--heads")
+                self.assertEqual(ended.exception.code, 1)
+                self.assertIn("crates/low: neither src/lib.rt nor src/main.rt begins with a sentence", told.getvalue())
