@@ -2,21 +2,28 @@
 
     tools/crates            the crates of the program, the highest layer first
     tools/crates --chain    one longest way down from lab_cli, which no build can do side by side
+    tools/crates --heads    the crates of the program as a table: what each is, and which crates it uses
+    tools/crates --others   the same table of the crates beside the program: laws, tests, and other programs
 
-Crates of tests and programs beside `lab` are left out, and so are libraries of the kit. It ends with 0, with 1 where
-that cannot be printed, and with 2 where its words are wrong.
+What a crate is, is the first sentence of the comment at the head of its src/lib.rt or src/main.rt. A table begins with
+the highest layer. Libraries of the kit are left out. It ends with 0, with 1 where a crate has no such comment or the
+output cannot be written, and with 2 where its words are wrong.
 """
 import functools
+import itertools
+import pathlib
+import re
 import textwrap
-from typing import Dict, List, Set
+from typing import Callable, Dict, List, Set
 
-from labtools.common.program import TOP, end_unless
+from labtools.common.program import TOP, end_unless, end_wrong
 
 PROGRAM = "lab_cli"
 COLUMNS = 110
+Uses = Dict[str, List[str]]
 
 
-def uses_of(text: str) -> Dict[str, List[str]]:
+def uses_of(text: str) -> Uses:
     """Returns the crates of crates.txt, each with those of the same file that it uses."""
     lines = [line.split("#")[0] for line in text.split("\n")]
     rows = [line.partition(":") for line in lines if ":" in line]
@@ -24,7 +31,7 @@ def uses_of(text: str) -> Dict[str, List[str]]:
     return {row[0].split()[0]: [it for it in row[2].split() if it in names] for row in rows}
 
 
-def below(uses: Dict[str, List[str]], crate: str) -> Set[str]:
+def below(uses: Uses, crate: str) -> Set[str]:
     """Returns a crate and all that it stands on."""
     found: Set[str] = set()
     left = [crate]
@@ -35,7 +42,7 @@ def below(uses: Dict[str, List[str]], crate: str) -> Set[str]:
     return found
 
 
-def chains_of(uses: Dict[str, List[str]]) -> Dict[str, List[str]]:
+def chains_of(uses: Uses) -> Uses:
     """Returns of each crate a longest way down from it; its length is the crate's layer."""
 
     @functools.lru_cache(maxsize=None)
@@ -47,7 +54,7 @@ def chains_of(uses: Dict[str, List[str]]) -> Dict[str, List[str]]:
     return {crate: chain(crate) for crate in uses}
 
 
-def layers(uses: Dict[str, List[str]]) -> List[str]:
+def layers(uses: Uses) -> List[str]:
     """Returns a line a layer, and more where it is long."""
     among = below(uses, PROGRAM)
     chains = {crate: chain for crate, chain in chains_of(uses).items() if crate in among}
@@ -59,7 +66,48 @@ def layers(uses: Dict[str, List[str]]) -> List[str]:
     return lines
 
 
+def first_sentence(source: str) -> str:
+    """Returns the first sentence of the comment at the head of a source, or nothing where there is no comment."""
+    head = itertools.takewhile(lambda it: it.startswith("//! "), source.split("\n"))
+    found = re.match(r"(.*?\.)(?: |$)", " ".join(line[4:].strip() for line in head))
+    return found[1] if found else ""
+
+
+def head_of(folder: pathlib.Path) -> str:
+    """Returns what the crate in a folder is, in its own words, or ends the script where the crate does not say so."""
+    for name in "src/lib.rt", "src/main.rt":
+        if (folder / name).is_file():
+            said = first_sentence((folder / name).read_text(encoding="utf-8"))
+            if said:
+                return said
+    end_wrong(f"crates/{folder.name}: neither src/lib.rt nor src/main.rt begins with a sentence", 1)
+
+
+def table(uses: Uses, among: Set[str], head: Callable[[str], str]) -> List[str]:
+    """Returns a table with a row for each of these crates, the highest layer first."""
+    heights = {crate: len(chain) for crate, chain in chains_of(uses).items()}
+    lines = ["| Layer | Crate | What it is | Uses |", "|---|---|---|---|"]
+    for crate in sorted(among, key=lambda it: (-heights[it], it)):
+        said = head(crate).replace("|", "\\|")
+        used = ", ".join(f"`{it}`" for it in sorted(uses[crate])) or "none"
+        lines.append(f"| {heights[crate]} | `{crate}` | {said} | {used} |")
+    return lines
+
+
+def printed(words: List[str], uses: Uses, crates: pathlib.Path) -> List[str]:
+    """Returns the lines that these words ask for, of crates in this folder."""
+    program = below(uses, PROGRAM)
+    if words == ["--chain"]:
+        return [" > ".join(chains_of(uses)[PROGRAM])]
+    if words == ["--heads"]:
+        return table(uses, program, lambda it: head_of(crates / it))
+    if words == ["--others"]:
+        return table(uses, set(uses) - program, lambda it: head_of(crates / it))
+    return layers(uses)
+
+
 def main(words: List[str]) -> None:
-    end_unless(words in ([], ["--chain"]), "[--chain]")
+    is_well = words in ([], ["--chain"], ["--heads"], ["--others"])
+    end_unless(is_well, "[--chain | --heads | --others]")
     uses = uses_of((TOP / "crates.txt").read_text(encoding="utf-8"))
-    print("\n".join([" > ".join(chains_of(uses)[PROGRAM])] if words else layers(uses)))
+    print("\n".join(printed(words, uses, TOP / "crates")))

@@ -3,7 +3,8 @@ passes over.
 
     tools/recipes [DOCUMENT ..]
 
-A comment in a document, on a line of its own, says what the block after it is; a block is indented by four blanks.
+A comment in a document, on a line of its own, says what the block after it is. A block is indented by four blanks, or
+it is a table, whose lines begin with a bar.
 
     <!-- lines of PATH -->     these lines stand in that file of the repository, one after another
     <!-- file PATH -->         the room gets a file of these lines
@@ -18,6 +19,7 @@ Each document has a room of its own, a new folder in which its commands run. `la
 LAB set, `lab` is ./lab with that program. What is passed over is told by a line that begins with `passed over`. It ends
 with 0, with 1 where something is not so, and with 2 where a document cannot be read.
 """
+import itertools
 import os
 import pathlib
 import re
@@ -49,8 +51,14 @@ def marks_of(text: str) -> Iterator[Tuple[int, str, str, List[str]]]:
             yield place + 1, mark[1], mark[2], lines[place + 1 :]
 
 
-def block_after(lines: List[str]) -> str:
-    """Returns the lines of the first indented block, without their indentation."""
+def table_after(lines: List[str]) -> List[str]:
+    """Returns the lines of the table that comes first, or none where something else does."""
+    rest = itertools.dropwhile(lambda it: not it.strip(), lines)
+    return list(itertools.takewhile(lambda it: it.startswith("|"), rest))
+
+
+def indented_after(lines: List[str]) -> List[str]:
+    """Returns the lines of the indented block that comes first, without their indentation, or none."""
     found: List[str] = []
     for line in lines:
         if line.startswith("    "):
@@ -61,6 +69,12 @@ def block_after(lines: List[str]) -> str:
             break
     while found and not found[-1]:
         found.pop()
+    return found
+
+
+def block_after(lines: List[str]) -> str:
+    """Returns the block after a comment: a table, or indented lines without their indentation."""
+    found = table_after(lines) or indented_after(lines)
     if not found:
         raise Wrong("no block stands after the comment")
     return "".join(f"{line}\n" for line in found)

@@ -1,7 +1,8 @@
 """Tries that what docs/ names stands in the sources: the contracts of docs/PROMISES.md, the wrong bodies of the page on
-tests, the files and crates of docs/ARCHITECTURE.md, the lemmas that are cited above their crate, and quoted lines. That
-a number which stands in several crates is one number. That the records of docs/decisions have their form, and their
-place in the index. And that lines of the crates have at most 120 columns. It reads texts alone and needs no program."""
+tests, the files and crates of docs/ARCHITECTURE.md, the files of docs/DEFINITIONS.md and docs/INSIDE.md, the lemmas that
+are cited above their crate, and quoted lines. That a number which stands in several crates is one number. That the
+records of docs/decisions have their form, and their place in the index. And that lines of the crates have at most 120
+columns. It reads texts alone and needs no program."""
 import collections
 import itertools
 import pathlib
@@ -270,11 +271,6 @@ class Pictures(unittest.TestCase):
             with self.subTest(part=name):
                 self.assertRegex(document, rf"(?m)^    {re.escape(addresses)} +{name}\b")
 
-    def test_the_layers_are_those_of_crates_txt(self) -> None:
-        said = subprocess.run([str(TOP / "tools/crates")], stdout=subprocess.PIPE, text=True, check=True)
-        shown = "".join(f"    {line}\n" for line in said.stdout.splitlines())
-        self.assertIn(f"\n{shown}\n", text_of("docs/ARCHITECTURE.md"))
-
 
 class Architecture(unittest.TestCase):
     @property
@@ -284,14 +280,20 @@ class Architecture(unittest.TestCase):
     def test_each_file_is_there(self) -> None:
         self.assertEqual(missing_files("`board/specs/Slot.antt`, `Stretch.antt`, `Nowhere.antt`"), ["Nowhere.antt"])
         self.assertEqual(missing_files("`board/specs/Nowhere.antt`"), ["board/specs/Nowhere.antt"])
-        for path in ("docs/ARCHITECTURE.md", "docs/PROMISES.md"):
-            with self.subTest(document=path):
-                self.assertEqual(missing_files(text_of(path)), [])
+        for page in "ARCHITECTURE", "DEFINITIONS", "INSIDE", "PROMISES":
+            with self.subTest(document=page):
+                self.assertEqual(missing_files(text_of(f"docs/{page}.md")), [])
 
-    def test_each_crate_stands_in_the_tree(self) -> None:
-        tree = self.document.split("\n## ")[1].split("<!-- run tools/crates -->")[0]
-        told = collections.Counter(re.findall(r"(?m)^    +(\w+)  ?", tree))
-        self.assertEqual({name for name, count in told.items() if name in crates() and count == 1}, set(crates()))
+    def test_the_tables_of_crates_are_those_of_the_sources(self) -> None:
+        for option in "--heads", "--others":
+            command = [str(TOP / "tools/crates"), option]
+            said = subprocess.run(command, stdout=subprocess.PIPE, text=True, check=True)
+            with self.subTest(option=option):
+                self.assertIn(f"<!-- run tools/crates {option} -->\n\n{said.stdout}\n", self.document)
+
+    def test_each_crate_has_one_row(self) -> None:
+        told = re.findall(r"(?m)^\| \d+ \| `(\w+)` \|", self.document)
+        self.assertEqual(sorted(told), sorted(crates()))
 
 
 def constant(path: str) -> int:

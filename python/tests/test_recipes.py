@@ -29,6 +29,11 @@ RIGHT = """# A page
     grep -q two a/one
     test -d demo -a -x lab -a -d tools
 
+<!-- run printf '| One | Two |\\n|---|---|\\n' -->
+
+| One | Two |
+|---|---|
+
 <!-- lines of VERSION -->
 
     VERSION
@@ -41,6 +46,8 @@ WRONG = (
         "<!-- run echo one; exit 4 -->\n\n    one\n",
         "1: `echo one; exit 4` ended with 4, and not with 0, and printed\none\n\n",
     ),
+    ("<!-- run echo one -->\n\n| one |\n", "1: `echo one` ended with 0, and not with 0, and printed\none\n\n"),
+    ("<!-- run echo one -->\n\nNot at once.\n\n| one |\n", "1: no block stands after the comment\n"),
     ("<!-- do -->\n\n    echo one\n    false\n    echo two\n", "1: the commands ended with 1 and printed\none\n\n"),
     ("<!-- lines of VERSION -->\n\n    none of these\n", "1: these lines do not stand in VERSION\n"),
     ("<!-- run true -->\nThe block is missing.\n", "1: no block stands after the comment\n"),
