@@ -41,8 +41,15 @@ from labtools.common.program import TOP, end_unless, path_of_program
 
 MOST = 64 * 2**20
 # What the program may have of memory where a snapshot of some kilobytes is taken back.
-LITTLE = 40 * 2**20
-REFUSED = b"error: s.resc:1: S20 snapshot\n"
+LITTLE_KIB = 40 * 2**10
+# How many damaged snapshots a shell takes one after another, since a program of its own to start each would take longer
+# than the run: it prints the status of each.
+BATCH = 50
+TAKE_EACH = """ulimit -v "$1"
+for ((at = 0; at < $2; at++)); do
+  "$3" run "$at.resc" >"$at.out" 2>&1 </dev/null
+  echo "$?"
+done"""
 
 # What a run has printed, and its status.
 Answer = Tuple[bytes, Optional[int]]
@@ -65,12 +72,22 @@ class Room:
     def read(self, name: str) -> bytes:
         return (pathlib.Path(self.path) / name).read_bytes()
 
-    def run(self, script: List[str], *words: str, memory: int = 0) -> Answer:
-        """Runs a script of these lines, in so many bytes of memory where that is not 0."""
+    def run(self, script: List[str], *words: str) -> Answer:
+        """Runs a script of these lines."""
         self.write("s.resc", "".join(f"{line}\n" for line in script).encode())
-        limit = ["prlimit", f"--as={memory}"] if memory else []
-        ended = trials.run([*limit, self.program, "run", "s.resc", *words], self.path, None, stderr=subprocess.STDOUT)
+        ended = trials.run([self.program, "run", "s.resc", *words], self.path, None, stderr=subprocess.STDOUT)
         return ended.printed, ended.status
+
+    def take_each(self, snapshots: List[bytes]) -> List[Answer]:
+        """Takes each of these snapshots and saves it again as `0.y` and so on, in little memory."""
+        for at, data in enumerate(snapshots):
+            self.write(f"{at}.x", data)
+            self.write(f"{at}.resc", f"Load @{at}.x\nSave @{at}.y\n".encode())
+            with contextlib.suppress(FileNotFoundError):
+                os.remove(f"{self.path}/{at}.y")
+        words = ["bash", "-c", TAKE_EACH, "bash", str(LITTLE_KIB), str(len(snapshots)), self.program]
+        statuses = trials.run(words, self.path, None).printed.split()
+        return [(self.read(f"{at}.out"), int(status)) for at, status in enumerate(statuses)]
 
 
 @contextlib.contextmanager
@@ -237,22 +254,30 @@ def with_pages(data: bytes, first: int, count: int, pages: bytes) -> bytes:
     return data[: first - 12] + count.to_bytes(8, "little") + pages + data[first + snapshot.PAGE :]
 
 
-def try_damaged(rooms: "queue.Queue[Room]", job: Damaged) -> Optional[str]:
-    """Returns what is wrong with how a damaged snapshot is taken, or None."""
-    what, data, is_refused = job
+def try_damaged(rooms: "queue.Queue[Room]", jobs: List[Damaged]) -> List[str]:
+    """Returns what is wrong with how damaged snapshots are taken."""
     room = rooms.get()
     try:
-        room.write("x", data)
-        with contextlib.suppress(FileNotFoundError):
-            os.remove(f"{room.path}/y")
-        printed, status = room.run(["Load @x", "Save @y"], memory=LITTLE)
-        if (printed, status) == (REFUSED, 3):
-            return None
-        if status != 0 or is_refused or room.read("y") != data:
-            return f"a damaged snapshot, {what}, ends with {status}: {printed[:200]!r}"
-        return None
+        answers = room.take_each([data for _, data, _ in jobs])
+        wrong = [wrong_with(room, at, job, answer) for at, (job, answer) in enumerate(zip(jobs, answers))]
+        return [*filter(None, wrong), *["not all damaged snapshots were taken"] * (len(answers) != len(jobs))]
     finally:
         rooms.put(room)
+
+
+def wrong_with(room: Room, at: int, job: Damaged, answer: Answer) -> Optional[str]:
+    """Returns what is wrong with how a snapshot of such a number was taken, or None."""
+    what, data, is_refused = job
+    printed, status = answer
+    if (printed, status) == (f"error: {at}.resc:1: S20 snapshot\n".encode(), 3):
+        return None
+    if status != 0 or is_refused or room.read(f"{at}.y") != data:
+        return f"a damaged snapshot, {what}, ends with {status}: {printed[:200]!r}"
+    return None
+
+
+def batches(jobs: Iterator[Damaged]) -> Iterator[List[Damaged]]:
+    return iter(lambda: list(itertools.islice(jobs, BATCH)), [])
 
 
 def try_large(room: Room) -> Iterator[str]:
@@ -307,9 +332,9 @@ def all_wrong(program: str) -> Iterator[str]:
         jobs: List[Tuple[str, List[str], Files]] = [(it, lines_of(it), {}) for it in trials.scripts_of_demos()]
         jobs.append(("a laboratory of all", *cut_labs.everything()))
         cuts = pool.map(lambda it: wrong_cuts(program, *it), jobs)
-        damages = pool.map(lambda job: try_damaged(rooms, job), all_damaged(small, larger))
+        damages = pool.map(lambda jobs: try_damaged(rooms, jobs), batches(all_damaged(small, larger)))
         yield from itertools.chain.from_iterable(cuts)
-        yield from (it for it in damages if it)
+        yield from itertools.chain.from_iterable(damages)
         yield from (f"the small snapshot does not show {it}" for it in cut_labs.missing_in_small(small))
         yield from try_missing(room)
         yield from try_large(room)

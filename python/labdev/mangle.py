@@ -19,9 +19,11 @@ tried; without it also how much was tried. As many are tried at a time as there 
 it fewer. It ends with 0 where nothing was wrong, with 1 where something was, and with 2 where its words are wrong:
 COUNT is a number from 1 to as many as there are.
 """
+import bisect
 import collections
 import concurrent.futures
 import glob
+import itertools
 import os
 import pathlib
 import random
@@ -30,7 +32,7 @@ import shutil
 import subprocess
 import tempfile
 import threading
-from typing import Any, Counter, Dict, Iterator, List, Tuple, Union
+from typing import Any, Counter, Dict, Iterator, List, Sequence, Tuple, Union
 
 from labdev import cases, trials
 from labdev.cases import Files
@@ -59,6 +61,9 @@ LOG = re.compile(
 )
 
 
+Damage = Tuple["Laboratory", str, int, str]
+
+
 class Laboratory:
     """Files by name, and the words of a run over them."""
 
@@ -79,12 +84,18 @@ class Laboratory:
     def key(self) -> Tuple[Any, ...]:
         return tuple(self.words), tuple(sorted(self.files.items()))
 
-    def places(self) -> Iterator[Tuple[str, int, str]]:
-        """Yields each damage: a file, a place in it, and what happens to the byte there."""
+    def count(self) -> int:
+        """Returns in how many ways one byte of it can be damaged."""
+        return sum(map(len, self.files.values())) * len(WAYS)
+
+    def damage(self, number: int) -> Damage:
+        """Returns a damage by its number: a file, a place in it, and what happens to the byte there."""
+        place, way = divmod(number, len(WAYS))
         for file, held in self.files.items():
-            for place in range(len(held)):
-                for way in WAYS:
-                    yield file, place, way
+            if place < len(held):
+                return self, file, place, WAYS[way]
+            place -= len(held)
+        raise IndexError(number)
 
 
 def reached(files: Files, words: List[str]) -> Files:
@@ -102,7 +113,7 @@ def reached(files: Files, words: List[str]) -> Files:
 
 def has(word: bytes, files: Files) -> bool:
     """Whether a file has this word, which is then no part of a longer one."""
-    return any(re.search(rb"\b%s\b" % word, held) for held in files.values())
+    return any(word in held and re.search(rb"\b%s\b" % word, held) for held in files.values())
 
 
 def of_case(path: str, program: str) -> Iterator[Laboratory]:
@@ -206,6 +217,21 @@ def seconds_of(room: str, words: List[str]) -> float:
     return float(used.ru_utime + used.ru_stime)
 
 
+class Damages:
+    """All damages of some laboratories, by their numbers."""
+
+    def __init__(self, found: List[Laboratory]) -> None:
+        self.laboratories = found
+        self.ends = list(itertools.accumulate(it.count() for it in found))
+
+    def count(self) -> int:
+        return self.ends[-1]
+
+    def damage(self, number: int) -> Damage:
+        at = bisect.bisect_right(self.ends, number)
+        return self.laboratories[at].damage(number - self.ends[at] + self.laboratories[at].count())
+
+
 class Trial:
     """Laboratories that are damaged one at a time, each worker in a room of its own in this folder."""
 
@@ -259,10 +285,11 @@ class Trial:
             self.wrong += is_wrong
             self.ends[ran.refusal[3].decode() if ran.refusal else ran.status] += 1
 
-    def try_all(self, damages: List[Tuple[Laboratory, str, int, str]]) -> None:
+    def try_all(self, damages: Damages, numbers: Sequence[int]) -> None:
+        """Tries the damages of these numbers."""
         with concurrent.futures.ThreadPoolExecutor(trials.lanes()) as workers:
-            for at in range(0, len(damages), BATCH):
-                list(workers.map(lambda it: self.try_one(*it), damages[at : at + BATCH]))
+            for at in range(0, len(numbers), BATCH):
+                list(workers.map(lambda it: self.try_one(*damages.damage(it)), numbers[at : at + BATCH]))
 
 
 def main(words: List[str]) -> int:
@@ -270,15 +297,16 @@ def main(words: List[str]) -> int:
     count = number_of(words[0], USAGE) if words else None
     seed = words[1] if words[1:] else "1"
     program = path_of_program()
-    chosen = [(it, *damage) for it in laboratories() for damage in it.places()]
+    damages = Damages(laboratories())
+    numbers: Sequence[int] = range(damages.count())
     if count is not None:
-        if count > len(chosen):
-            end_wrong(f"there are {len(chosen)} such files, and not {count}")
-        chosen = [chosen[at] for at in sorted(random.Random(seed).sample(range(len(chosen)), count))]
+        if count > len(numbers):
+            end_wrong(f"there are {len(numbers)} such files, and not {count}")
+        numbers = sorted(random.Random(seed).sample(numbers, count))
     trials.unwind_at_ends()
     with Room("lab-mangle-") as room:
         trial = Trial(program, seed, room.path)
-        trial.try_all(chosen)
+        trial.try_all(damages, numbers)
     if count is None:
         print(f"{trial.tried} damaged files, {trial.went_on} runs ended after a second, {trial.wrong} answers wrong")
         print(", ".join(f"{cause}: {number}" for cause, number in sorted(trial.ends.items(), key=str)))

@@ -17,6 +17,7 @@ import dataclasses
 import json
 import os
 import pathlib
+import shutil
 import signal
 import subprocess
 import sys
@@ -36,8 +37,8 @@ SECONDS = 900
 TOLD_EACH = 10
 # How long each test took the last time: the longest begin first.
 TIMES = TOP / "out/test.times"
-# Of how many damaged files each of these tests tries some, each from a seed of its own.
-DAMAGED = 4, 100
+# How many damaged files tools/mangle tries.
+DAMAGED = 400
 
 
 @dataclasses.dataclass(frozen=True)
@@ -73,12 +74,10 @@ def tests_of_cases() -> List[Test]:
 def tests_of_tools() -> List[Test]:
     """Returns the tests of ./lab and of the scripts of tools/."""
     tests: List[Test] = []
-    for name, seconds in ("edges", 5.0), ("cuts", 60.0):
+    for command, seconds in ("edges", 5.0), ("cuts", 60.0), (f"mangle {DAMAGED}", 9.0):
+        name, *words = command.split()
         if (TOP / "tools" / name).exists():
-            tests.append(Test(f"tools/{name}", [f"tools/{name}"], seconds))
-    if (TOP / "tools/mangle").exists():
-        count, files = DAMAGED
-        tests += [Test(f"tools/mangle/{it + 1}", ["tools/mangle", str(files), str(it + 1)], 9.0) for it in range(count)]
+            tests.append(Test(f"tools/{name}", [f"tools/{name}", *words], seconds))
     for path in sorted(TOP.glob("python/tests/test_*.py")):
         words = [sys.executable, "-m", "labdev.quiet", f"tests.{path.stem}"]
         tests.append(Test(f"tests/{path.stem[len('test_'):]}", words, 5.0, TOP / "python"))
@@ -119,11 +118,19 @@ def keep_times(times: Dict[str, float]) -> None:
         pass
 
 
+def path_of_commands() -> str:
+    """Returns a path of commands on which python3 is the one that runs this. The shim of a manager of Pythons, which
+    chooses one anew at each start, makes that take half as long again."""
+    path, found = os.environ.get("PATH", os.defpath), shutil.which("python3")
+    is_this = found is not None and os.path.samefile(found, sys.executable)
+    return path if is_this else os.path.dirname(sys.executable) + os.pathsep + path
+
+
 class Runs:
     """The tests that run now, which end with this script."""
 
     def __init__(self, program: str) -> None:
-        self.environment = {**os.environ, "LAB": program}
+        self.environment = {**os.environ, "LAB": program, "PATH": path_of_commands()}
         self.lock = threading.Lock()
         self.running: Dict[str, "subprocess.Popen[str]"] = {}
         self.is_ended = False
