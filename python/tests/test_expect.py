@@ -47,7 +47,7 @@ class Expect(Packaged):
         self.expect(0, "", "--bless", "test/s.resc", "test/log")
         self.use("fail")
         self.expect(1, "a test has failed: [0.000100] pause m0/fin: fail 3", "test/s.resc", "test/log")
-        self.expect(0, "are wanted to fail it too", "--bless", "test/s.resc", "test/failing")
+        self.expect(0, "are expected to fail it too", "--bless", "test/s.resc", "test/failing")
         self.expect(0, "", "test/s.resc", "test/failing")
 
     def test_what_lab_could_not_do_is_no_log(self) -> None:
