@@ -1,6 +1,6 @@
 """Tries that what docs/ names stands in the sources: the contracts of docs/PROMISES.md, the wrong bodies of the page on
-tests, the files and crates of docs/ARCHITECTURE.md, the files of docs/DEFINITIONS.md and docs/INSIDE.md, the lemmas that
-are cited above their crate, and quoted lines. That a number which stands in several crates is one number. That the
+tests, the files and crates of docs/ARCHITECTURE.md, the files of docs/DEFINITIONS.md and docs/INSIDE.md, the lemmas
+that are cited above their crate, and quoted lines. That a number which stands in several crates is one number. That the
 records of docs/decisions have their form, and their place in the index. And that lines of the crates have at most 120
 columns. It reads texts alone and needs no program."""
 import collections
