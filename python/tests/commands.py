@@ -8,6 +8,7 @@ import unittest
 from typing import Dict, Tuple, Union
 
 from labtools.common.program import TOP, path_of_program
+from tests import tools
 
 Word = Union[str, pathlib.Path]
 BOARD = """ram: Memory.MappedMemory @ sysbus 0x80000000 { size: 0x10000 }
@@ -41,10 +42,15 @@ class Commands(unittest.TestCase):
 
     def call(self, *words: Word, **settings: str) -> Tuple[int, str]:
         """Runs a command, and returns its status and what it has printed on both outputs."""
+        path, *rest = map(str, words)
+        env = {**self.environment, **settings}
+        if tools.module_of(path):
+            told = tools.call(path, *rest, cwd=self.room, env=env, stderr=subprocess.STDOUT)
+            return told.returncode, told.stdout
         ran = subprocess.run(
-            [str(it) for it in words],
+            [path, *rest],
             cwd=self.room,
-            env={**self.environment, **settings},
+            env=env,
             text=True,
             errors="replace",
             timeout=600,

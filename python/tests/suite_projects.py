@@ -12,6 +12,7 @@ import unittest
 from typing import Callable, Dict, List, Optional, Tuple
 
 from labtools.common.program import TOP
+from tests import tools
 
 
 SUITE = str(TOP / "tools/suite")
@@ -90,8 +91,9 @@ def opened_by(process: int) -> List[str]:
 
 def is_ended(process: int) -> bool:
     """Whether a process has ended; it may still be there for a parent to look at its status."""
-    status = pathlib.Path(f"/proc/{process}/stat")
-    return not status.exists() or status.read_text(encoding="utf-8").rpartition(") ")[2].startswith("Z")
+    with contextlib.suppress(OSError):
+        return pathlib.Path(f"/proc/{process}/stat").read_text(encoding="utf-8").rpartition(") ")[2].startswith("Z")
+    return True
 
 
 class Project(unittest.TestCase):
@@ -115,11 +117,12 @@ class Project(unittest.TestCase):
         return (self.folder / path).read_text(encoding="utf-8")
 
     def call(self, *words: str) -> "subprocess.CompletedProcess[str]":
-        """Calls a program in the project's folder. tools/suite runs by the Python of this script, which is quick."""
+        """Calls a program in the project's folder."""
+        if tools.module_of(words[0]):
+            return tools.call(*words, cwd=self.folder, env=self.environment)
         pipe = subprocess.PIPE
-        python = [sys.executable] if words[0] == SUITE else []
         return subprocess.run(
-            [*python, *words], cwd=self.folder, env=self.environment, stdout=pipe, stderr=pipe, text=True, timeout=300
+            words, cwd=self.folder, env=self.environment, stdout=pipe, stderr=pipe, text=True, timeout=300
         )
 
     def expect(self, words: List[str], status: int, lines: str, told: Optional[str] = None) -> None:

@@ -10,7 +10,6 @@ import re
 import resource
 import shutil
 import subprocess
-import sys
 import unittest
 from typing import Any, Callable, Dict, List, Tuple
 from unittest import mock
@@ -19,6 +18,7 @@ from labdev.pythons import with_pyelftools
 from labtools import core
 from labtools.boards import snapshot
 from labtools.common.program import TOP
+from tests import tools
 from tests.test_where import DATA, LAB, InRoom
 
 
@@ -110,8 +110,7 @@ print(json.dumps([file["e_type"], file["e_machine"], file.elfclass, file.little_
 class Room(InRoom):
     def call(self, *words: str, **how: Any) -> Tuple[int, str, str]:
         """Returns how tools/core ends, and what it prints."""
-        command = [sys.executable, str(TOP / "tools/core"), *words]
-        ran = subprocess.run(command, cwd=self.room, capture_output=True, text=True, timeout=300, **how)
+        ran = tools.call(TOP / "tools/core", *words, cwd=self.room, **how)
         return ran.returncode, ran.stdout, ran.stderr
 
     def core(self, *words: str) -> List[str]:
@@ -340,11 +339,11 @@ class Faults(Room):
             resource.setrlimit(resource.RLIMIT_FSIZE, (32768, 32768))
 
         line = "tools/core: cores: File too large\n"
-        self.assertEqual(self.refused("kept", "cores", preexec_fn=limit), line)
+        self.assertEqual(self.refused("kept", "cores", before=limit), line)
         self.assertFalse((self.room / "cores").exists())
         self.core("--at", "0.0005", "ask.resc", "cores")
         before = self.held()
-        self.assertEqual(self.refused("kept", "cores", preexec_fn=limit), line)
+        self.assertEqual(self.refused("kept", "cores", before=limit), line)
         self.assertEqual(self.held(), before)
         self.assertEqual(len(os.listdir(self.room / "cores")), 2)
 
@@ -390,11 +389,10 @@ class Faults(Room):
         self.assertTrue(40 < refused < 360, refused)
 
     def test_an_output_that_is_full_is_told(self) -> None:
-        words = [sys.executable, str(TOP / "tools/core"), "kept", "cores"]
         with open("/dev/full", "wb") as full:
-            ran = subprocess.run(words, cwd=self.room, stdout=full, stderr=subprocess.PIPE, text=True)
+            status, _, told = self.call("kept", "cores", stdout=full.fileno())
         line = "tools/core: [Errno 28] No space left on device\n"
-        self.assertEqual((ran.returncode, ran.stderr, len(self.held("cores"))), (1, line, 2))
+        self.assertEqual((status, told, len(self.held("cores"))), (1, line, 2))
 
     def test_what_cannot_be_read_or_run(self) -> None:
         self.assertEqual(self.refused("none.resc", "cores"), "tools/core: none.resc: No such file or directory\n")

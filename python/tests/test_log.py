@@ -14,6 +14,7 @@ from typing import Any, Dict, Iterator, List, Tuple
 
 from labtools.common.program import TOP
 from labtools.logs import log_lines
+from tests import tools
 
 
 TOOL = str(TOP / "tools" / "log")
@@ -52,7 +53,7 @@ class InFolder(unittest.TestCase):
         (self.folder / "a.log").write_text(LOG)
 
     def run_tool(self, *words: str, status: int = 0, given: str = "") -> str:
-        ran = subprocess.run([TOOL, *words], cwd=self.folder, input=given, text=True, capture_output=True)
+        ran = tools.call(TOOL, *words, cwd=self.folder, given=given)
         self.assertEqual(ran.returncode, status, ran.stderr)
         return ran.stdout
 

@@ -24,6 +24,7 @@ from labdev import cases, mangle
 from labtools.boards import run_until
 from labtools.common.program import TOP
 from labtools.scripts import finishers, reads
+from tests import tools
 from tests.scripts import CPU, RAM, Files, InFolder, lab, put
 
 
@@ -117,22 +118,21 @@ PRINTED: List[Tuple[Files, List[str], str, int]] = [
 class Printed(InFolder):
     """What tools/reads prints."""
 
-    def reads(self, *words: str) -> "subprocess.CompletedProcess[bytes]":
-        command = [str(TOP / "tools" / "reads"), *words]
-        return subprocess.run(command, cwd=self.folder, stdout=subprocess.PIPE, stderr=subprocess.PIPE)
+    def reads(self, *words: str) -> "subprocess.CompletedProcess[str]":
+        return tools.call(TOP / "tools/reads", *words, cwd=self.folder)
 
     def test_what_is_printed(self) -> None:
         for files, words, wanted, status in PRINTED:
             with self.subTest(words=words, wanted=wanted):
                 self.write(files)
                 ran = self.reads(*words)
-                self.assertEqual((ran.stdout.decode(), ran.returncode), (wanted, status))
-                self.assertEqual(ran.stderr != b"", status == 2 or words == ["/dev/null"])
+                self.assertEqual((ran.stdout, ran.returncode), (wanted, status))
+                self.assertEqual(ran.stderr != "", status == 2 or words == ["/dev/null"])
                 for name in files:
                     (self.folder / name).unlink()
 
     def test_help_has_the_form(self) -> None:
-        self.assertIn(b"tools/reads [--json] SCRIPT", self.reads("--help").stdout)
+        self.assertIn("tools/reads [--json] SCRIPT", self.reads("--help").stdout)
 
 
 EQUIPPED = "mach create m0\nmachine LoadPlatformDescription @p.repl\n"

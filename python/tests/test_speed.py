@@ -9,11 +9,12 @@ import subprocess
 import sys
 import tempfile
 import unittest
-from typing import Dict, List, Tuple
+from typing import Dict, Tuple
 
 from labdev import speed_loads, trials
 from labtools.boards import machine, snapshot
 from labtools.common.program import TOP, path_of_program
+from tests import tools
 
 # What stands in for valgrind: a run has 5,000,000 machine instructions and 7,350 for each microsecond, and prints two
 # bytes for each; `gen` has 148,000,000 and prints nothing.
@@ -149,8 +150,7 @@ class Tables(unittest.TestCase):
     def speed(self, *words: str) -> Tuple[int, str, str]:
         # The stand-in for valgrind runs no program; it has to be one all the same.
         env: Dict[str, str] = {**os.environ, "PATH": str(self.room), "LAB": sys.executable}
-        command: List[str] = [sys.executable, str(TOP / "tools/speed"), *words]
-        ran = subprocess.run(command, cwd=self.room, env=env, capture_output=True, text=True, timeout=60)
+        ran = tools.call(TOP / "tools/speed", *words, cwd=self.room, env=env)
         return ran.returncode, ran.stdout, ran.stderr
 
     def test_counts_are_parted_by_the_work_between_two_lengths(self) -> None:

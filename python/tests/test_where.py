@@ -2,7 +2,6 @@
 derives what is expected. The program is that of the variable LAB, and else ./lab. Without a Python that has pyelftools
 the tests that need them are passed over.
 """
-import contextlib
 import json
 import os
 import pathlib
@@ -12,14 +11,15 @@ import signal
 import subprocess
 import sys
 import tempfile
-import time
 import unittest
-from typing import Any, Callable, Dict, List, Tuple
+from typing import Any, Dict, List, Tuple
 
 from labdev.pythons import with_pyelftools
 from labtools.boards import machine
 from labtools.common.program import TOP
 from labtools.elf import unwind
+from tests import tools
+from tests.suite_projects import HEED, is_ended, wait_for
 
 
 DATA = TOP / "python/tests/data/where"
@@ -58,9 +58,7 @@ class InRoom(unittest.TestCase):
 
     def run_tool(self, name: str, *words: str, **settings: str) -> Tuple[int, str, str]:
         """Returns how a script of tools/ ends, and what it prints."""
-        command = [PYTHON, str(TOP / "tools" / name), *words]
-        env = {**os.environ, **settings}
-        ran = subprocess.run(command, cwd=self.room, env=env, capture_output=True, text=True, timeout=300)
+        ran = tools.call(TOP / "tools" / name, *words, cwd=self.room, env={**os.environ, **settings}, python=PYTHON)
         return ran.returncode, ran.stdout, ran.stderr
 
     def where(self, *words: str, **settings: str) -> str:
@@ -629,14 +627,6 @@ echo $$ >"$PROCESS"
 exec sleep 600
 """
 
-# Becomes a program that ignores no signal by which it may be ended, though this one may have been started so.
-HEED = """
-import os, signal, sys
-for number in signal.SIGINT, signal.SIGTERM, signal.SIGHUP:
-    signal.signal(number, signal.SIG_DFL)
-os.execv(sys.argv[1], sys.argv[1:])
-"""
-
 
 class Ended(unittest.TestCase):
     """What is left of tools that run lab, which is nothing."""
@@ -651,22 +641,9 @@ class Ended(unittest.TestCase):
             (self.folder / name).write_text(text, encoding="utf-8")
         (self.folder / "lab").chmod(0o755)
 
-    def wait_for(self, is_so: Callable[[], bool]) -> None:
-        until = time.monotonic() + 240
-        while not is_so() and time.monotonic() < until:
-            time.sleep(0.02)
-        self.assertTrue(is_so())
-
     def process(self) -> int:
         """The process of the program that is in place of lab, or 0 where none has begun."""
         return int((self.folder / "process").read_text(encoding="utf-8") or 0)
-
-    def is_running(self) -> bool:
-        """Whether that process runs. One that has ended may wait to be looked at."""
-        with contextlib.suppress(OSError):
-            status = pathlib.Path(f"/proc/{self.process()}/stat").read_text(encoding="utf-8")
-            return status.rpartition(") ")[2][0] != "Z"
-        return False
 
     def test_its_folder_and_its_run_go_with_it_however_it_ends(self) -> None:
         for number in signal.SIGTERM, signal.SIGHUP, signal.SIGINT, signal.SIGKILL:
@@ -685,13 +662,13 @@ class Ended(unittest.TestCase):
         env = {**os.environ, **named}
         with subprocess.Popen(words, cwd=self.folder, env=env, stderr=subprocess.PIPE, text=True) as process:
             try:
-                self.wait_for(lambda: self.process() > 0)
+                wait_for(lambda: self.process() > 0)
                 self.assertEqual([it.name.rpartition("-")[0] for it in self.room.iterdir()], [f"lab-{tool}"])
                 process.send_signal(number)
                 told = process.communicate(timeout=240)[1]
-                self.wait_for(lambda: not self.is_running() and not list(self.room.iterdir()))
+                wait_for(lambda: is_ended(self.process()) and not list(self.room.iterdir()))
                 return process.returncode, told
             finally:
                 process.kill()
-                if self.is_running():
+                if not is_ended(self.process()):
                     os.kill(self.process(), signal.SIGKILL)

@@ -8,6 +8,7 @@ import subprocess
 import sys
 
 from labtools.common.program import TOP
+from tests import tools
 from tests.commands import Commands
 
 
@@ -72,8 +73,6 @@ PRINTING = (
     ("suite --help", 2),
 )
 FULL = "[Errno 28] No space left on device"
-# An output that is closed.
-CLOSE = -100
 CLOSED = "[Errno 9] Bad file descriptor"
 # A laboratory without boards, at its beginning, whose quantum is 100 microseconds (docs/SNAPSHOTS.md).
 KEPT = b"LABSNAP1" + bytes(8) + (100).to_bytes(8, "little") + bytes(4 * 8)
@@ -94,20 +93,11 @@ class Words(Commands):
         self.environment.update({"LAB": "/none/lab", "PATH": path, "LC_ALL": "C"})
 
     def ended(self, words: str, buffered: bool = True, output: int = subprocess.PIPE, **settings: str) -> int:
-        """Calls a script, and returns its status. Its output may be closed, by `CLOSE`."""
+        """Calls a script, and returns its status. Its output may be closed, by `tools.CLOSED`."""
         script, *rest = words.split()
-        ran = subprocess.run(
-            [sys.executable, str(TOP / "tools" / script), *rest],
-            cwd=self.room,
-            env={**self.environment, "PYTHONUNBUFFERED": "" if buffered else "1", **settings},
-            text=True,
-            timeout=60,
-            stdin=subprocess.DEVNULL,
-            stdout=None if output == CLOSE else output,
-            stderr=subprocess.PIPE,
-            preexec_fn=(lambda: os.close(1)) if output == CLOSE else None,
-        )
-        self.printed, self.told = ran.stdout or "", ran.stderr
+        env = {**self.environment, **settings}
+        ran = tools.call(TOP / "tools" / script, *rest, cwd=self.room, env=env, stdout=output, is_buffered=buffered)
+        self.printed, self.told = ran.stdout, ran.stderr
         return ran.returncode
 
     def test_a_line_says_what_is_wrong(self) -> None:
@@ -136,13 +126,13 @@ class Words(Commands):
             with self.subTest(buffered=buffered), open("/dev/full", "wb") as full:
                 ended = self.ended("suite s.resc", buffered, full.fileno(), LAB=lab)
                 self.assertEqual((ended, self.told), (2, f"suite: {FULL}\n"))
-        ended = self.ended("suite s.resc", output=CLOSE, LAB=lab)
+        ended = self.ended("suite s.resc", output=tools.CLOSED, LAB=lab)
         self.assertEqual((ended, self.told), (2, f"suite: {CLOSED}\n"))
 
     def test_an_output_that_is_closed_is_told(self) -> None:
         for words, status in PRINTING:
             with self.subTest(words=words):
-                ended = self.ended(words, output=CLOSE)
+                ended = self.ended(words, output=tools.CLOSED)
                 self.assertEqual((ended, self.told), (status, f"tools/{words.split()[0]}: {CLOSED}\n"))
 
     def test_the_names_of_the_tests_are_printed_as_far_as_someone_reads(self) -> None:

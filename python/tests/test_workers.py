@@ -7,6 +7,7 @@ import unittest
 
 from labdev import trials, workers
 from labtools.common.program import TOP, path_of_program
+from tests import tools
 
 
 def tell(program: str, *words: str) -> "subprocess.CompletedProcess[str]":
@@ -15,9 +16,7 @@ def tell(program: str, *words: str) -> "subprocess.CompletedProcess[str]":
         path = pathlib.Path(room) / "lab"
         path.write_text(f"#!/bin/sh\n{program}\n")
         path.chmod(0o755)
-        return subprocess.run(
-            [TOP / "tools/workers", "--lab", str(path), *words], capture_output=True, text=True, timeout=60
-        )
+        return tools.call(TOP / "tools/workers", "--lab", str(path), *words)
 
 
 class Runs(unittest.TestCase):
