@@ -8,7 +8,7 @@ import subprocess
 import sys
 import tempfile
 import traceback
-from typing import Any, Callable, Dict, List, Mapping, NoReturn, Optional, Sequence
+from typing import Any, Callable, Dict, List, Mapping, NoReturn, Optional, Sequence, TextIO
 
 from labtools.common.program import TOP, run_called
 
@@ -51,21 +51,25 @@ def call(
         return ran
     # It is read here once, and not in each process.
     importlib.import_module(module_of(path) or "")
-    with contextlib.ExitStack() as stack:
-        files = [stack.enter_context(open(os.memfd_create("lab"), "w+", errors="replace")) for _ in range(3)]
-        files[0].write(given)
-        files[0].seek(0)
-        own = [file.fileno() for file in files]
-        outputs = {subprocess.PIPE: own[1]}
-        numbers = [own[0], outputs.get(stdout, stdout), own[2] if stderr == subprocess.PIPE else own[1]]
+    with in_memory(given) as read, in_memory() as printed, in_memory() as told:
+        output = printed.fileno() if stdout == subprocess.PIPE else stdout
+        numbers = [read.fileno(), output, told.fileno() if stderr == subprocess.PIPE else printed.fileno()]
         process = os.fork()
         if process == 0:
             end_as_tool(numbers, command, str(cwd), env, is_buffered, before)
         _, status = os.waitpid(process, 0)
-        for file in files:
-            file.seek(0)
+        printed.seek(0)
+        told.seek(0)
         ended = -os.WTERMSIG(status) if os.WIFSIGNALED(status) else os.WEXITSTATUS(status)
-        return subprocess.CompletedProcess(command, ended, files[1].read(), files[2].read())
+        return subprocess.CompletedProcess(command, ended, printed.read(), told.read())
+
+
+def in_memory(text: str = "") -> TextIO:
+    """Returns a file without a name, which is read from its beginning."""
+    file = open(os.memfd_create("lab"), "w+", errors="replace")
+    file.write(text)
+    file.seek(0)
+    return file
 
 
 def end_as_tool(
