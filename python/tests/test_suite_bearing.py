@@ -91,7 +91,7 @@ class Signals(Bearing):
         for number in signal.SIGTERM, signal.SIGHUP, signal.SIGINT:
             self.write("a.resc.waits", "")
             self.ends(number, lambda _: bool(self.read("a.resc.waits")))
-            self.assertTrue(is_ended(int(self.read("a.resc.waits"))))
+            wait_for(lambda: is_ended(int(self.read("a.resc.waits"))))
 
     def test_a_signal_ends_a_suite_that_waits_for_another_one(self) -> None:
         self.make("a", "1\n", "1\n", "# suite: after boot.resc\n")
