@@ -5,11 +5,11 @@
     tools/wrong --all      those of every crate: some three hours
     tools/wrong --check    tries nothing, and says which crates have changed since; .ci/run asks this
 
-`rt must-fail NAME ..` tries them, one crate after another, over a copy of the tree in which they are in must-fail/. The
-copy takes along the libraries that this checkout has built; `rt` builds those that are missing or out of date. Where all
-edits of a crate were refused, crates/NAME/wrong/tried gets the sum of the crate's own sources and the sum of each edit.
-Commit it with the change. It ends with 0, with 1 where an edit was not refused or a crate has changed since its edits
-were tried, and with 2 where it is called otherwise.
+`rt must-fail NAME ..` tries them, one crate after another, over a copy of the tree in which they are in must-fail/.
+The copy takes along the libraries that this checkout has built; `rt` builds those that are missing or out of date.
+Where all edits of a crate were refused, crates/NAME/wrong/tried gets the sum of the crate's own sources and the sum of
+each edit. Commit it with the change. It ends with 0, with 1 where an edit was not refused or a crate has changed since
+its edits were tried, and with 2 where it is called otherwise.
 """
 import pathlib
 import re
@@ -39,8 +39,8 @@ def asked_for(words: List[str]) -> List[WrongBodies]:
 
 
 def copy_tree(crates: List[WrongBodies], to: pathlib.Path) -> None:
-    """Copies what rt reads and the libraries that are built here, with the edits of these crates, and no others, in their
-    folders must-fail/ too."""
+    """Copies what rt reads and the libraries that are built here, with the edits of these crates, and no others, in
+    their folders must-fail/ too."""
     shutil.copytree(TOP / "crates", to / "crates", ignore=shutil.ignore_patterns("incremental", "must-fail"))
     for name in "crates.txt", "HANDLES":
         shutil.copy(TOP / name, to)
