@@ -44,7 +44,8 @@ class Printing(Bearing):
         line = "failed  T s  a.resc: printed more than 9 bytes\n0 passed, 1 failed\n"
         self.expect(["--most", "9", "--update", "."], 1, line)
         self.assertEqual(self.read("a.log"), "1\n")
-        self.assertIn("--most BYTES  ends a test that prints more; 100000000 by default", self.call(SUITE, "--help").stdout)
+        told = self.call(SUITE, "--help").stdout
+        self.assertIn("--most BYTES  ends a test that prints more; 100000000 by default", told)
 
     def test_memory_does_not_grow_with_what_tests_print(self) -> None:
         least, _ = self.used("--help")
