@@ -132,7 +132,7 @@ fn a_state_is_valid_within_its_bounds(rt: HostRuntime) {
         (can(0x01, 0x80, 0), false),
         (can(0x01, 0x00, 7), false),
     ];
-    for (state, is_valid) in rows {
-        assert_eq!(rt; is_valid_state(&state), is_valid, "{state:?}");
+    for (place, (state, is_valid)) in rows.iter().enumerate() {
+        assert!(rt; is_valid_state(state) == *is_valid, "row {place}");
     }
 }

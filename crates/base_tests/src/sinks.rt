@@ -22,7 +22,7 @@ fn pieces_are_written_whole_up_to_a_fault(rt: HostRuntime) -> Result<(), Fail> {
     out.fail_at(3)?;
     out.fail_at(4)?;
     for (piece, answer) in &PIECES {
-        assert_eq!(rt; write_whole(&mut out, piece), *answer, "{piece:?}");
+        assert!(rt; write_whole(&mut out, piece) == *answer, "{piece:?}");
     }
     assert_eq!(rt; out.bytes(), b"abcdejk".as_slice());
     Ok(())
@@ -111,8 +111,5 @@ fn the_output_is_told_what_was_taken(rt: HostRuntime) {
         assert!(rt; takes(alloc, *terminal, *answer, bytes), "{terminal:?}");
     }
     // The standard output itself.
-    assert_eq!(rt;
-        write_whole(&mut OutSink::new(&rt), b"a line of a test\n"),
-        Ok(())
-    );
+    assert!(rt; write_whole(&mut OutSink::new(&rt), b"a line of a test\n") == Ok(()));
 }

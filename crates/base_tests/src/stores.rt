@@ -7,7 +7,7 @@ use std::test::Fail;
 use std::{fs, io, rt};
 
 /// A call on a store, and what it answers.
-#[derive(Clone, Copy, Debug)]
+#[derive(Clone, Copy)]
 enum Call {
     /// A name and bytes.
     Put(&'static str, &'static [u8], StoreAnswer),
@@ -52,8 +52,8 @@ fn a_store_keeps_the_last_bytes_of_a_name(rt: HostRuntime) -> Result<(), Fail> {
     store.fail_at(3)?;
     store.fail_at(6)?;
     store.fail_at(11)?;
-    for call in &IN_MEMORY {
-        assert!(rt; answers(alloc, &mut store, call), "{call:?}");
+    for (place, call) in IN_MEMORY.iter().enumerate() {
+        assert!(rt; answers(alloc, &mut store, call), "call {place}");
     }
     Ok(())
 }
@@ -72,10 +72,10 @@ static ON_DISK: [Call; 7] = [
 #[test]
 fn a_real_file_is_written_whole(rt: HostRuntime) -> Result<(), Fail> {
     let alloc = rt.alloc();
-    for call in &ON_DISK {
+    for (place, call) in ON_DISK.iter().enumerate() {
         assert!(rt;
             answers(alloc, &mut DiskStore::new(&rt, alloc), call),
-            "{call:?}"
+            "call {place}"
         );
     }
     let is_finished = fs::open(&rt, ".lab-0").is_err();
@@ -117,10 +117,10 @@ fn is_link<R: rt::Files>(rt: &R, name: &str) -> bool {
 fn a_put_leaves_other_files(rt: HostRuntime) -> Result<(), Fail> {
     let alloc = rt.alloc();
     make_room(&rt)?;
-    for call in &BESIDE {
+    for (place, call) in BESIDE.iter().enumerate() {
         assert!(rt;
             answers(alloc, &mut DiskStore::new(&rt, alloc), call),
-            "{call:?}"
+            "call {place}"
         );
     }
     assert!(rt; is_link(&rt, "lab_io_room/link"));

@@ -18,18 +18,19 @@ use Rattle.sys_bus.specs.declared.plan.BoardPlan.{BoardPlan}
 use Rattle.board.specs.Idle.{core_passed, turns_of}
 use Rattle.board.specs.Inner.Holds.{Holds, state_alone, state_of}
 use Rattle.board.specs.HartView.{slot_state}
-use Rattle.board.specs.Changes.{cleared, copied}
-use Rattle.board.specs.Inner.Copies.{CopiesPrefix}
+use Rattle.board.specs.Changes.{cleared}
+use Rattle.board_space.specs.Changes.{copied}
+use Rattle.board_space.specs.Copies.{CopiesPrefix}
 use Rattle.board.specs.Inner.Seat.{all_passed, behind}
-use Rattle.board.proofs.CopyLemmas.{plan-copied}
+use Rattle.board_space.proofs.CopyLemmas.{plan-copied}
 use Rattle.board.proofs.NumberLemmas.{plan-slot, speed-slot}
 use Rattle.board.proofs.TurnLemmas.{number_after_is, taken_in_turn}
 use Rattle.sys_bus.specs.Plan.{IsValid}
 use Rattle.board.specs.New.{new_board, new_cores, reset_core}
 use Rattle.board.specs.Numbers.{Numbers}
-use Rattle.board.specs.Space.{Space}
+use Rattle.board_space.specs.Space.{Space}
 use Rattle.board.specs.Slot.{hart_slot, number_after}
-use Rattle.board.specs.Valid.{IsReservation}
+use Rattle.board_space.specs.Valid.{IsReservation}
 use Rattle.board.specs.View.{View, State, core_at}
 use Rattle.board.specs.HartBus.{HartBus}
 

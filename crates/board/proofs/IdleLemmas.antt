@@ -19,9 +19,9 @@ use Rattle.rv_hart.specs.Core.{Core, initial, ticked}
 use Rattle.rv_hart.specs.Trap.{is_ready}
 use Rattle.board.specs.Inner.Seat.{all_passed}
 use Rattle.board.specs.Idle.{IsIdle, IsStillFor, passed, core_passed, is_idle, turns_of, all_halted}
-use Rattle.board.specs.Lines.{lines_of, timer_up, mip_of}
+use Rattle.board_space.specs.Lines.{lines_of, timer_up, mip_of}
 use Rattle.board.specs.Slot.{slot, hart_slot, number_after}
-use Rattle.board.specs.Space.{Space}
+use Rattle.board_space.specs.Space.{Space}
 use Rattle.board.specs.Stretch.{stretch}
 use Rattle.board.specs.View.{View, State, quiet, after, core_at}
 use Rattle.board.proofs.SlotLemmas.{slot-halted}

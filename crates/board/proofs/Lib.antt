@@ -1,17 +1,9 @@
-pub mod CopyLemmas
-pub mod DeviceLemmas
-pub mod FitLemmas
 pub mod HoldLemmas
 pub mod IdleLemmas
-pub mod LineLemmas
-pub mod ListLemmas
-pub mod MemoryLemmas
 pub mod NumberLemmas
-pub mod PartLemmas
 pub mod SeatLemmas
 pub mod SentLemmas
 pub mod SlotLemmas
-pub mod SourceLemmas
 pub mod StateLemmas
 pub mod StretchLemmas
 pub mod ToldLemmas

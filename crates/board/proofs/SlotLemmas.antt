@@ -19,8 +19,8 @@ use Rattle.sys_bus.specs.declared.region.Target.TheVariants.{Ram, Clint, Plic, D
 use Rattle.sys_bus.specs.Plan.{IsValid}
 use Rattle.board.specs.Fetch.{effect_on}
 use Rattle.board.specs.HartView.{HartView, SlotState, slot_state, still, bus_of}
-use Rattle.board.specs.Lines.{sampled, lines_of}
-use Rattle.board.specs.Space.{Space, device_at, target_at, device_store, after_store}
+use Rattle.board_space.specs.Lines.{sampled, lines_of}
+use Rattle.board_space.specs.Space.{Space, device_at, target_at, device_store, after_store}
 use Rattle.board.specs.HartBus.{HartBus, answer, posted, entered, entered_if, note_if, sent, acted, loaded, stored}
 use Rattle.board.specs.HartBus.{loaded_from, stored_to}
 use Rattle.rv_exec.specs.Effect.{Effect, Done, Load, Store, bus_after, core_after}

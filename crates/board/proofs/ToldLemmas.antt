@@ -28,10 +28,10 @@ use Rattle.sys_bus.specs.declared.region.Target.TheVariants.{Ram, Clint, Plic, D
 use Rattle.sys_bus.specs.Part.{is_part}
 use Rattle.sys_bus.specs.Plan.{IsValid}
 use Rattle.sys_bus.specs.Region.{holds, target_if, target_by}
-use Rattle.board.specs.Lines.{sampled}
+use Rattle.board_space.specs.Lines.{sampled}
 use Rattle.board.specs.Sent.{is_of_kind, IsShown, IsToldBy}
-use Rattle.board.specs.Space.{Space, BoardDevice, device_at, with_state, target_at, register_load, register_store}
-use Rattle.board.specs.Space.{after_load, after_store, device_load, device_store}
+use Rattle.board_space.specs.Space.{Space, BoardDevice, device_at, with_state, target_at, register_load, register_store}
+use Rattle.board_space.specs.Space.{after_load, after_store, device_load, device_store}
 use Rattle.board.specs.View.{View}
 use Rattle.board.specs.HartBus.{note_of, note_if}
 use Rattle.lab_num.proofs.ListLemmas.{passes_at, found_passes}

@@ -27,15 +27,16 @@ use Rattle.rv_atomic.specs.Watch.{after_store, has_reserved, kept, reaches, rese
 use Rattle.sys_bus.specs.declared.plan.BoardPlan.{BoardPlan}
 use Rattle.sys_bus.specs.declared.region.Target.{Target}
 use Rattle.sys_bus.specs.declared.region.Target.TheVariants.{Ram, Clint, Plic, Dev, Nothing}
-use Rattle.board.specs.Changes.{is_memory}
+use Rattle.board_space.specs.Changes.{is_memory}
 use Rattle.board.specs.Fetch.{fetched_by, shared_by, word_at_pc}
 use Rattle.board.specs.HartView.{HartView, SlotState, slot_state, still, bus_of}
 use Rattle.board.specs.Inner.Seat.{behind}
-use Rattle.board.specs.Lines.{sampled, lines_of}
+use Rattle.board_space.specs.Lines.{sampled, lines_of}
 use Rattle.board.specs.Slot.{hart_slot, running, sampling, awake, asleep, woken, cycle, instruction}
-use Rattle.board.specs.Space.{Space, target_at}
-use Rattle.board.specs.Valid.{IsReservation}
-use Rattle.board.specs.HartBus.{HartBus, fetched, word_at}
+use Rattle.board_space.specs.Space.{Space, target_at}
+use Rattle.board_space.specs.Valid.{IsReservation}
+use Rattle.board.specs.HartBus.{HartBus, fetched}
+use Rattle.board_space.specs.Words.{word_at}
 
 -- What stays true of the reservations, whatever a processor does: a store of it, the end of its own reservation, and,
 -- where it has atomic instructions, a new one of a word that a memory holds.

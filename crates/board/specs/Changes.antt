@@ -1,21 +1,16 @@
 -- What may be changed of a board from outside.
-use Rattle.std.specs.Prelude.{◌≡◌, ℕ, ◌+◌, ◌%◌, ◌≤◌, ◌==◌, length, replicate, take, Bool, true, false, if◌then◌else◌}
-use Rattle.std.specs.Prelude.{List, []}
-use Rattle.std.specs.Prelude.{◌∷◌, Option, None}
-use Rattle.std.specs.List.{list_all, range_with_len}
-use Rattle.dev_core.specs.declared.kind.Kind.{Kind}
+use Rattle.std.specs.Prelude.{◌≡◌, ℕ, ◌%◌, ◌≤◌, ◌==◌, length, replicate, take, Bool, true, if◌then◌else◌}
+use Rattle.std.specs.Prelude.{List}
+use Rattle.std.specs.Prelude.{Option, None}
 use Rattle.dev_core.specs.declared.payload.Payload.{Payload}
 use Rattle.dev_core.specs.declared.payload.Taken.{Taken}
 use Rattle.dev_core.specs.declared.state.DevState.{DevState}
 use Rattle.dev_core.specs.Answered.{Answered}
 use Rattle.dev_core.specs.Device.{dev_take, kind_of}
-use Rattle.dev_core.specs.Kind.{row_of}
-use Rattle.page_ram.specs.Bytes.{put_bytes}
-use Rattle.sys_bus.specs.declared.region.Target.{Target}
-use Rattle.sys_bus.specs.declared.region.Target.TheVariants.{Ram, Clint, Plic, Dev, Nothing}
-use Rattle.board.specs.Space.{Space, memory_at, with_memory, device_at, with_device, with_state, target_at}
-use Rattle.board.specs.HartBus.{word_in}
+use Rattle.board_space.specs.Space.{with_memory, device_at, with_device, with_state}
+use Rattle.board_space.specs.Words.{word_in}
 use Rattle.board.specs.View.{View, State, core_at, with_core}
+pub use Rattle.board_space.specs.Changes.{is_shown_kind, is_memory, in_memory, holds_each, put_in, put_byte, copied}
 
 -- a board of which a processor's next instruction is at this address
 abbrev pub with_pc : View → ℕ → ℕ → View
@@ -28,10 +23,6 @@ with_halted v hart on = with_core v hart (record (core_at v hart) { halted = on 
 -- a board of so many instructions a microsecond
 abbrev pub with_speed : View → ℕ → View
 with_speed v speed = record v { numbers = record v.numbers { speed = speed } }
-
--- devices of the kind may be shown
-abbrev pub is_shown_kind : Kind → Bool
-is_shown_kind kind = (row_of kind).may_be_shown
 
 abbrev pub may_be_shown : View → ℕ → Bool
 may_be_shown v dev = is_shown_kind (kind_of (device_at v.space dev).state)
@@ -50,37 +41,6 @@ taken_by v dev payload = (handed_to v dev payload).answer
 
 abbrev pub handed : View → ℕ → Payload → View
 handed v dev payload = record v { space = with_state v.space dev (handed_to v dev payload).after }
-
--- whether an address is that of a byte of a memory
-abbrev pub is_memory : Target → Bool
-is_memory (Ram part at) = true
-is_memory (Dev dev at) = false
-is_memory (Clint at) = false
-is_memory (Plic at) = false
-is_memory Nothing = false
-
-abbrev pub in_memory : Space → ℕ → Bool
-in_memory s at = is_memory (target_at s at 1)
-
--- whether each of so many bytes from an address on is in a memory
-abbrev pub holds_each : Space → ℕ → ℕ → Bool
-holds_each s at count = list_all (in_memory s) (range_with_len at count)
-
--- a byte is put in its place in a memory
-abbrev pub put_in : Space → ℕ → Target → Space
-put_in s byte (Ram part at) = with_memory s part (put_bytes (memory_at s part) at (byte ∷ []))
-put_in s byte (Dev dev at) = s
-put_in s byte (Clint at) = s
-put_in s byte (Plic at) = s
-put_in s byte Nothing = s
-
-abbrev pub put_byte : Space → ℕ → ℕ → Space
-put_byte s at byte = put_in s byte (target_at s at 1)
-
--- bytes are put in memories, one after another from an address on
-abbrev pub copied : Space → ℕ → List ℕ → Space
-copied s at [] = s
-copied s at (byte ∷ bytes) = copied (put_byte s at byte) (at + 1) bytes
 
 -- no reservations of so many processors
 abbrev pub cleared : List (Option ℕ) → List (Option ℕ)

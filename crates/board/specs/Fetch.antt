@@ -1,9 +1,8 @@
 -- What a slot fetches at the pc: a word, and on a processor with compressed instructions one or two half-words
 -- (RISC-V Unprivileged ISA 20191213, sections 1.5 and 16.1), and what it does by that.
-use Rattle.std.specs.Prelude.{ℕ, ◌+◌, ◌*◌, ◌%◌, ◌^◌, ◌==◌, Bool, if◌then◌else◌, Option, None, Some}
-use Rattle.std.specs.Option.{option_and_then, option_map, option_map_or}
+use Rattle.std.specs.Prelude.{ℕ, ◌%◌, ◌==◌, Bool, if◌then◌else◌, Option, None, Some}
+use Rattle.std.specs.Option.{option_and_then, option_map_or}
 use Rattle.rvc_decode.specs.Means.{expansion}
-use Rattle.page_ram.specs.Bytes.{value_at}
 use Rattle.rv_hart.specs.declared.csr.Lines.{Lines}
 use Rattle.rv_hart.specs.Core.{Core}
 use Rattle.rv_exec.specs.declared.fetched.Fetched.{Fetched}
@@ -15,34 +14,14 @@ use Rattle.rv_atomic.specs.declared.shared.Shared.TheVariants as shared
 use Rattle.rv_atomic.specs.AtomicEffect.{SharedEffect}
 use Rattle.rv_atomic.specs.Means.{atomic_of}
 use Rattle.rv_atomic.specs.SharedEffect.{shared_effect}
-use Rattle.sys_bus.specs.declared.region.Target.{Target}
-use Rattle.sys_bus.specs.declared.region.Target.TheVariants.{Ram, Clint, Plic, Dev, Nothing}
-use Rattle.board.specs.Space.{Space, memory_at, target_at}
+use Rattle.board_space.specs.Space.{Space}
+use Rattle.board_space.specs.Words.{half_in, second, word_begun}
 use Rattle.board.specs.HartBus.{HartBus, fetched}
 use Rattle.board.specs.HartView.{HartView}
-
--- the half-word at an address, if a memory holds it
-abbrev pub half_at : Space → Target → Option ℕ
-half_at s (Ram part at) = Some (value_at (memory_at s part) at 2)
-half_at s (Dev dev at) = None
-half_at s (Clint at) = None
-half_at s (Plic at) = None
-half_at s Nothing = None
-
-abbrev pub half_in : Space → ℕ → Option ℕ
-half_in s at = half_at s (target_at s at 2)
 
 -- what a half-word is that is an instruction by itself
 abbrev pub of_half : ℕ → Fetched
 of_half half = option_map_or (λ i. Good i 2 half) (expansion half) (Bad half)
-
--- the address of the second half-word: after 2^32 - 2 comes 0
-abbrev pub second : ℕ → ℕ
-second at = (at + 2) % 2 ^ 32
-
--- the word whose lower half is this half-word, if a memory holds the other
-abbrev pub word_begun : Space → ℕ → ℕ → Option ℕ
-word_begun s at half = option_map (λ upper. half + upper * 2 ^ 16) (half_in s (second at))
 
 -- what begins with a half-word: where its low two bits are 11, it is the lower half of a word
 abbrev pub is_lower : ℕ → Bool

@@ -9,12 +9,12 @@ use Rattle.dev_core.specs.declared.post.Entry.{Entry}
 use Rattle.dev_core.specs.declared.post.Post.{Post}
 use Rattle.dev_core.specs.declared.post.What.{What}
 use Rattle.dev_core.specs.declared.post.What.TheVariants as what
-use Rattle.page_ram.specs.Bytes.{value_at}
 use Rattle.sys_bus.specs.declared.region.Target.{Target}
 use Rattle.sys_bus.specs.declared.region.Target.TheVariants.{Ram, Clint, Plic, Dev, Nothing}
 use Rattle.board.specs.Numbers.{Numbers, after_post, after_entry}
-use Rattle.board.specs.Space.{Space, memory_at, device_at, target_at, device_store, load_answer, after_load}
-use Rattle.board.specs.Space.{after_store}
+use Rattle.board_space.specs.Space.{Space, device_at, target_at, device_store, load_answer, after_load}
+use Rattle.board_space.specs.Space.{after_store}
+use Rattle.board_space.specs.Words.{word_in}
 
 -- the board's numbers, its space, the microsecond of the slot, and the posts and entries that nobody has taken
 pub record HartBus : Type 0 where
@@ -68,17 +68,6 @@ sent w dev payload = entered_if (posted w dev payload) (note_if (device_at w.spa
 abbrev pub acted : HartBus → ℕ → Effect → HartBus
 acted w dev Quiet = w
 acted w dev (Send payload) = sent w dev payload
-
--- the word of an instruction at an address, if a memory holds it
-abbrev pub word_at : Space → Target → Option ℕ
-word_at s (Ram part at) = Some (value_at (memory_at s part) at 4)
-word_at s (Dev dev at) = None
-word_at s (Clint at) = None
-word_at s (Plic at) = None
-word_at s Nothing = None
-
-abbrev pub word_in : Space → ℕ → Option ℕ
-word_in s at = word_at s (target_at s at 4)
 
 abbrev pub fetched : HartBus → ℕ → Option ℕ
 fetched w at = word_in w.space at

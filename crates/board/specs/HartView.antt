@@ -4,7 +4,7 @@ use Rattle.dev_core.specs.declared.post.Post.{Post}
 use Rattle.dev_core.specs.declared.post.Entry.{Entry}
 use Rattle.rv_hart.specs.Core.{Core}
 use Rattle.board.specs.Numbers.{Numbers}
-use Rattle.board.specs.Space.{Space}
+use Rattle.board_space.specs.Space.{Space}
 use Rattle.board.specs.View.{View, core_at}
 use Rattle.board.specs.HartBus.{HartBus}
 

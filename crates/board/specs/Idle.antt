@@ -5,7 +5,7 @@ use Rattle.std.specs.List.{list_all, range_with_len}
 use Rattle.lab_num.specs.Paid.{slot_at}
 use Rattle.rv_hart.specs.Core.{Core}
 use Rattle.rv_hart.specs.Trap.{is_ready}
-use Rattle.board.specs.Lines.{sampled, timer_up, mip_of}
+use Rattle.board_space.specs.Lines.{sampled, timer_up, mip_of}
 use Rattle.board.specs.View.{View, core_at}
 
 -- the slots of a processor pass by themselves where these interrupts are pending: it is halted, or goes on waiting

@@ -1,6 +1,6 @@
+pub use Rattle.board_space.specs.Space
+pub use Rattle.board_space.specs.Lines
 pub mod Numbers
-pub mod Space
-pub mod Lines
 pub mod HartBus
 pub mod Fetch
 pub mod View

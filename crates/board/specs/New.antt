@@ -1,55 +1,14 @@
 -- A board at lab time 0, and one that was reset.
-use Rattle.std.specs.Prelude.{ℕ, false, List, length, map, option_map, replicate, None}
+use Rattle.std.specs.Prelude.{ℕ, List, length, map, replicate, None}
 use Rattle.std.specs.List.{range_with_len}
-use Rattle.clint.specs.Clint.{Timer, clint_reset}
-use Rattle.dev_core.specs.declared.kind.Kind.{Kind}
-use Rattle.dev_core.specs.declared.kind.Kind.TheVariants as kind
-use Rattle.dev_core.specs.declared.state.DevState.{DevState}
-use Rattle.dev_core.specs.declared.state.DevState.TheVariants.{Uart, Can, Finisher}
-use Rattle.dev_core.specs.Can.{can_reset}
-use Rattle.dev_core.specs.Device.{dev_reset}
-use Rattle.dev_core.specs.Uart.{uart_reset}
-use Rattle.page_ram.specs.Bytes.{zeros}
-use Rattle.plic.specs.State.{Controller, plic_reset}
 use Rattle.rv_hart.specs.Core.{Core, initial_with}
 use Rattle.rv_hart.specs.declared.letters.Letters.{Letters}
 use Rattle.sys_bus.specs.declared.plan.BoardPlan.{BoardPlan}
-use Rattle.sys_bus.specs.declared.plan.PlicSize.{PlicSize}
 use Rattle.board.specs.Numbers.{Numbers}
-use Rattle.board.specs.Space.{Space, BoardDevice}
 use Rattle.board.specs.Changes.{cleared}
 use Rattle.board.specs.View.{View}
-
--- the reset state of a device of a kind
-abbrev pub first_state : Kind → DevState
-first_state kind.Uart = Uart uart_reset
-first_state kind.Can = Can can_reset
-first_state kind.Finisher = Finisher
-
-abbrev pub first_states : BoardPlan → List DevState
-first_states plan = map first_state plan.kinds
-
--- a device that is not shown
-abbrev pub hidden : DevState → BoardDevice
-hidden state = record { state = state; shown = false }
-
--- a timer of a frequency, and an interrupt controller of a size, in their reset states
-abbrev pub new_timer : ℕ → Timer
-new_timer frequency = record { frequency = frequency; state = clint_reset }
-
-abbrev pub new_controller : PlicSize → Controller
-new_controller size = record { sources = size.sources; contexts = size.contexts; state = plic_reset }
-
--- what a new board of a plan reaches: memories of 0, and the timer, the interrupt controller and the devices in their
--- reset states, no device shown
-abbrev pub new_space : BoardPlan → Space
-new_space plan = record {
-  plan = plan;
-  memories = map zeros plan.memories;
-  timer = option_map new_timer plan.frequency;
-  controller = option_map new_controller plan.plic;
-  devices = map hidden (first_states plan);
-}
+pub use Rattle.board_space.specs.New.{first_state, first_states, hidden, new_timer, new_controller}
+pub use Rattle.board_space.specs.New.{new_space, reset_device, reset_timer, reset_controller, reset_space, size_of}
 
 -- a new board has made nothing yet, and goes at the speed of its plan
 abbrev pub new_numbers : ℕ → BoardPlan → Numbers
@@ -69,24 +28,6 @@ new_board number plan = record {
   space = new_space plan;
 }
 
--- a device after a reset, which stays shown
-abbrev pub reset_device : BoardDevice → BoardDevice
-reset_device fitted = record fitted { state = dev_reset fitted.state }
-
--- a timer and an interrupt controller after a reset, which keep their frequency and their size
-abbrev pub reset_timer : Timer → Timer
-reset_timer timer = record timer { state = clint_reset }
-
-abbrev pub reset_controller : Controller → Controller
-reset_controller c = record c { state = plic_reset }
-
-abbrev pub reset_space : Space → Space
-reset_space s = record s {
-  timer = option_map reset_timer s.timer;
-  controller = option_map reset_controller s.controller;
-  devices = map reset_device s.devices;
-}
-
 -- a processor after a reset, which keeps its letters and its number, and stays halted
 abbrev pub reset_core : Core → Core
 reset_core core = record (initial_with core.letters core.number) { halted = core.halted }
@@ -101,7 +42,3 @@ reset v =
       watch = cleared v.watch;
       space = reset_space v.space;
     }
-
--- what a reset keeps of an interrupt controller
-abbrev pub size_of : Controller → PlicSize
-size_of c = record { sources = c.sources; contexts = c.contexts }

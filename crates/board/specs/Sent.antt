@@ -11,7 +11,7 @@ use Rattle.dev_core.specs.Device.{kind_of}
 use Rattle.dev_core.specs.Kind.{row_of}
 use Rattle.lab_num.specs.declared.key.Key.{Key}
 use Rattle.lab_num.specs.Paid.{slot_at}
-use Rattle.board.specs.Space.{device_at}
+use Rattle.board_space.specs.Space.{device_at}
 use Rattle.board.specs.View.{View}
 
 -- a key of one of the slots `a` to `a + n - 1` of the grant that begins at `from`, at this speed

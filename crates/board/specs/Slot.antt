@@ -6,7 +6,7 @@ use Rattle.rv_hart.specs.Core.{Core, ticked}
 use Rattle.rv_hart.specs.Trap.{chosen, interrupt, is_ready}
 use Rattle.rv_exec.specs.Effect.{core_after, bus_after}
 use Rattle.rv_atomic.specs.AtomicEffect.{SharedEffect}
-use Rattle.board.specs.Lines.{sampled, lines_of}
+use Rattle.board_space.specs.Lines.{sampled, lines_of}
 use Rattle.board.specs.Fetch.{effect_on}
 use Rattle.board.specs.HartBus.{HartBus, answer, loaded, stored}
 use Rattle.board.specs.View.{View, State}

@@ -4,7 +4,7 @@ use Rattle.dev_core.specs.declared.post.Post.{Post}
 use Rattle.dev_core.specs.declared.post.Entry.{Entry}
 use Rattle.rv_hart.specs.Core.{Core, initial}
 use Rattle.board.specs.Numbers.{Numbers}
-use Rattle.board.specs.Space.{Space}
+use Rattle.board_space.specs.Space.{Space}
 
 -- a board's numbers, its processors, the number of the one that takes the next slot, the words that they have
 -- reserved, and what they reach, which has the board's plan

@@ -21,14 +21,14 @@ use std::mem;
 use sys_bus::BoardPlan;
 
 /// Where a turn begins: slot `first` of the grant that begins at microsecond `from`.
-#[derive(Clone, Copy, PartialEq, Eq, Debug)]
+#[derive(Clone, Copy)]
 pub struct SlotAt {
     pub from: Micros,
     pub first: u64,
 }
 
 /// How many slots a turn has taken.
-#[derive(Clone, Copy, PartialEq, Eq, Debug)]
+#[derive(Clone, Copy, PartialEq, Eq)]
 pub enum Turn {
     /// All that were asked for.
     Used(u64),
@@ -64,10 +64,12 @@ impl<D: Device> Board<D> {
     ghost use Rattle.dev_core.specs.Device.{kind_of, IsValid as IsValidState};
     ghost use Rattle.dev_core.specs.declared.kind.Kind.TheVariants.{Finisher};
     ghost use Rattle.sys_bus.specs.Plan.{IsValid};
-    ghost use Rattle.board.specs.New.{first_states, new_board, reset};
+    ghost use Rattle.board_space.specs.New.{first_states};
+    ghost use Rattle.board.specs.New.{new_board, reset};
     ghost use Rattle.board.specs.Changes.{with_pc, with_halted, with_speed, with_shown, may_be_shown, with_bytes};
-    ghost use Rattle.board.specs.Changes.{WritesPrefix, holds_each, word_held, taken_by, handed};
-    ghost use Rattle.board.specs.Space.{device_at};
+    ghost use Rattle.board.specs.Changes.{WritesPrefix, word_held, taken_by, handed};
+    ghost use Rattle.board_space.specs.Changes.{holds_each};
+    ghost use Rattle.board_space.specs.Space.{device_at};
     ghost use Rattle.board.specs.View.{core_at, quiet};
     ghost use Rattle.page_ram.specs.Bytes.{zeros};
     ghost use Rattle.rv_hart.specs.Core.{alignment, reg};

@@ -7,12 +7,13 @@ ghost use Rattle.page_ram.specs.Bytes.{zeros};
 ghost use Rattle.rv_exec.specs.Access.{IsAccess, IsWidth};
 ghost use Rattle.sys_bus.specs.declared.region.Target.TheVariants.{Ram, Dev};
 ghost use Rattle.board.specs.HartBus.{fetched, answer, loaded, stored, stored_to, entered};
-ghost use Rattle.board.specs.New.{first_states, new_numbers, new_space};
-ghost use Rattle.board.specs.Space.{memory_at};
+ghost use Rattle.board_space.specs.New.{first_states, new_space};
+ghost use Rattle.board.specs.New.{new_numbers};
+ghost use Rattle.board_space.specs.Space.{memory_at};
 ghost use Rattle.sys_bus.specs.Plan.{IsValid};
 
 use crate::outbox::Outbox;
-use crate::space::{Parts, Space, regions_and_memories};
+use board_space::{Parts, Space, regions_and_memories};
 use dev_core::{Device, Effect, What};
 use lab_num::{BoardNo, Micros, NoMemory};
 use rv_exec::Bus;

@@ -7,9 +7,9 @@ ghost use Rattle.board.specs.Fetch.{fetched_by, shared_by};
 ghost use Rattle.board.specs.Inner.Seat.{seat, shared_of_word, HasDone, IsSeat};
 ghost use Rattle.board.specs.HartBus.{answer, loaded, stored};
 
+use crate::halves::{begun_by, of_half};
 use crate::hart_bus::HartBus;
 use crate::slot::Features;
-use crate::space::halves::of_half;
 use dev_core::Device;
 use lab_num::NoMemory;
 use rv_atomic::{Shared, Watch, decode_atomic, laws, step_shared};
@@ -87,7 +87,7 @@ fn by_halves<const COPY: u8, D: Device>(
         return perform(hart, Fetched::Fault(at), bus, lines);
     };
     if half % 4 == 3 {
-        let what = bus.space.begun_by(half, at);
+        let what = begun_by(&mut bus.space, half, at);
         perform(hart, what, bus, lines)
     } else {
         perform(hart, of_half(half), bus, lines)

@@ -2,14 +2,15 @@
 //! nothing.
 ghost use Rattle.std.specs.Prelude.{◌≡◌, ℕ, ◌+◌, ◌%◌, ◌<◌, ◌^◌, Bool, true, List, sum, length};
 ghost use Rattle.std.specs.Prelude.{All, map};
-ghost use Rattle.board.specs.declared.state.BoardState.{BoardState};
+ghost use Rattle.board_space.specs.declared.state.BoardState.{BoardState};
 ghost use Rattle.board.specs.BoardState.{board_state, brought_to};
 ghost use Rattle.board.specs.View.{View, quiet, after};
-ghost use Rattle.board.specs.Valid.{IsBoard, IsStateFor};
+ghost use Rattle.board.specs.Valid.{IsBoard};
+ghost use Rattle.board_space.specs.Valid.{IsStateFor};
 ghost use Rattle.board.specs.Stretch.{stretch, in_turns};
 ghost use Rattle.board.specs.Idle.{IsIdle, IsStillFor, all_halted, passed};
-ghost use Rattle.board.specs.Lines.{sampled};
-ghost use Rattle.board.specs.Space.{Space};
+ghost use Rattle.board_space.specs.Lines.{sampled};
+ghost use Rattle.board_space.specs.Space.{Space};
 ghost use Rattle.board.specs.Numbered.{IsNumbered};
 ghost use Rattle.board.specs.Sent.{IsEnteredIn, IsSentBy, IsSentIn, IsToldBy};
 ghost use Rattle.dev_core.specs.Device.{kind_of};

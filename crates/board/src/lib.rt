@@ -3,18 +3,15 @@
 #![tactic(auto)]
 
 mod board;
-mod board_device;
+mod halves;
 mod hart_bus;
 mod harts;
 mod instruction;
 pub mod laws;
 mod numbers;
 mod outbox;
-mod remembered;
 mod sharing;
 mod slot;
-mod space;
-mod state;
 
 pub use board::{Board, SlotAt, Turn};
-pub use state::{BoardState, state_fits};
+pub use board_space::{BoardState, state_fits};

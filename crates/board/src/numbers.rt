@@ -3,7 +3,7 @@ ghost use Rattle.std.specs.Prelude.{◌≡◌};
 ghost use Rattle.board.specs.BoardState.{numbers_to};
 ghost use Rattle.board.specs.Numbers.{after_post, after_entry};
 
-use crate::state::BoardState;
+use board_space::BoardState;
 use lab_num::BoardNo;
 use std::marker::Model;
 

@@ -1,7 +1,7 @@
 //! What a board makes.
 ghost use Rattle.std.specs.Prelude.{◌≡◌, ◌↔◌, ℕ, ◌<◌, [], IfOk, OnOk, OnErr, IsTrue};
 ghost use Rattle.std.specs.Vec.{vec_len, vec_capacity};
-ghost use Rattle.board.specs.Space.{Space};
+ghost use Rattle.board_space.specs.Space.{Space};
 ghost use Rattle.board.specs.HartBus.{posted, entered, entered_if, note_if, post_of, entry_of, key_of};
 ghost use Rattle.board.specs.Inner.Outbox.{bus_with, HasRoom};
 

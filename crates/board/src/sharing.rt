@@ -11,10 +11,10 @@ ghost use Rattle.board.specs.HartView.{slot_state};
 ghost use Rattle.board.specs.Inner.Seat.{behind, seat, shared_of_word, HasDone, IsSeat};
 ghost use Rattle.board.specs.Slot.{awake, hart_slot, running};
 
+use crate::halves::of_half;
 use crate::hart_bus::HartBus;
 use crate::instruction::{by_sharing, of_word};
 use crate::slot::{Features, enter_interrupt, sample_and_run, taken, wait};
-use crate::space::halves::of_half;
 use dev_core::Device;
 use lab_num::{Micros, NoMemory};
 use rv_atomic::{Shared, Watch, is_store, laws, step_shared};

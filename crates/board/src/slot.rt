@@ -4,7 +4,7 @@ ghost use Rattle.rv_exec.specs.Laws.{IsSameHart};
 ghost use Rattle.rv_hart.specs.Trap.{chosen, interrupt};
 ghost use Rattle.board.specs.HartView.{slot_state};
 ghost use Rattle.board.specs.Inner.Seat.{behind, seat, IsSeat};
-ghost use Rattle.board.specs.Lines.{sampled, lines_of};
+ghost use Rattle.board_space.specs.Lines.{sampled, lines_of};
 ghost use Rattle.board.specs.Slot.{hart_slot, running, sampling, awake, asleep};
 ghost use Rattle.rv_hart.specs.Core.{ticked};
 

@@ -165,7 +165,8 @@ fn a_text_has_its_words_or_its_first_fault(rt: HostRuntime) -> Result<(), Fail> 
     let words = assemble(rt.alloc(), text)?;
     assert_eq!(rt; words.as_slice(), meant.as_slice());
     for row in &FAULTS {
-        assert!(rt; has_fault(rt.alloc(), *row), "{row:?}");
+        let text = row.0;
+        assert!(rt; has_fault(rt.alloc(), *row), "{text}");
     }
     Ok(())
 }

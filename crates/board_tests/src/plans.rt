@@ -13,7 +13,7 @@ use std::test::Fail;
 use sys_bus::{BoardPlan, NamedWhat, PlicSize, Region, RegionKind, Wire, WireFrom, WirePin};
 
 /// What is another in the plan of a board.
-#[derive(Clone, Copy, Debug)]
+#[derive(Clone, Copy)]
 enum Change {
     /// How many names, regions, memories and devices of the small board there are.
     Counts(usize, usize, usize, usize),
@@ -355,9 +355,9 @@ fn is_valid_with(alloc: Global, change: Change) -> Result<bool, NoMemory> {
 }
 
 fn assert_rows(rt: &impl Abort, alloc: Global, rows: &[Row]) -> Result<(), NoMemory> {
-    for &(change, valid) in rows {
+    for (place, &(change, valid)) in rows.iter().enumerate() {
         let is_valid = is_valid_with(alloc, change)?;
-        assert!(rt; is_valid == valid, "{change:?}");
+        assert!(rt; is_valid == valid, "row {place}");
     }
     Ok(())
 }
@@ -367,10 +367,10 @@ fn assert_wires(
     alloc: Global,
     rows: &[(WireFrom, WirePin, bool, bool)],
 ) -> Result<(), NoMemory> {
-    for &(from, pin, on_usual, on_small) in rows {
+    for (place, &(from, pin, on_usual, on_small)) in rows.iter().enumerate() {
         let usual = is_valid_with(alloc, Change::UsualWire(from, pin))?;
         let small = is_valid_with(alloc, Change::SmallWire(from, pin))?;
-        assert!(rt; (usual, small) == (on_usual, on_small), "{from:?} {pin:?}");
+        assert!(rt; (usual, small) == (on_usual, on_small), "row {place}");
     }
     Ok(())
 }

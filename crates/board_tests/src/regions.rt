@@ -61,8 +61,8 @@ fn assert_accesses(rt: &impl Abort, regions: &mut Regions, rows: &[(u32, u8, Tar
     for (at, width, target) in rows {
         let (at, width) = (*at, *width);
         assert!(rt; width == 1 || width == 2 || width == 4);
-        assert_eq!(rt; regions.find(at, width), *target);
-        assert_eq!(rt; regions.find_data(at, width), *target);
+        assert!(rt; regions.find(at, width) == *target, "{at:x} {width}");
+        assert!(rt; regions.find_data(at, width) == *target, "{at:x} {width}");
     }
 }
 

@@ -275,10 +275,10 @@ fn takes_turns(board: &mut Board<Uart>, row: &Turns) -> Result<bool, NoMemory> {
 
 #[test]
 fn processors_take_slots_in_turn(rt: HostRuntime) -> Result<(), Fail> {
-    for row in &TURNS {
+    for (place, row) in TURNS.iter().enumerate() {
         let mut board = start(&rt, rt.alloc(), usize::from(row.0), row.1, row.2)?;
         let is_so = takes_turns(&mut board, row)?;
-        assert!(rt; is_so, "{row:?}");
+        assert!(rt; is_so, "row {place}");
     }
     Ok(())
 }

@@ -126,10 +126,12 @@ static STORES: [(u32, bool); 6] = [
 #[test]
 fn words_mean_their_instructions(rt: HostRuntime) {
     for row in &WORDS {
-        assert!(rt; means(*row), "{row:?}");
+        let word = row.0;
+        assert!(rt; means(*row), "{word:x}");
     }
     for row in &ATOMIC_WORDS {
-        assert!(rt; means_atomic(*row), "{row:?}");
+        let word = row.0;
+        assert!(rt; means_atomic(*row), "{word:x}");
     }
     for &(word, wanted) in &STORES {
         assert!(rt; is_store(word) == wanted, "{word:x}");

@@ -25,7 +25,7 @@ use dev_core::{CanState, DevState, Device, Effect, FrameRow, Kind, Payload, Take
 use std::marker::Model;
 
 /// A CAN controller, which contracts see as its state.
-#[derive(Drop, Debug)]
+#[derive(Drop)]
 pub struct Can {
     state: CanState,
 }

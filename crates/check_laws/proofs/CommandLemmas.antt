@@ -36,7 +36,7 @@ use Rattle.board.specs.Changes.{is_memory, with_bytes, with_halted, with_pc, wit
 use Rattle.board.specs.New.{new_board, reset}
 use Rattle.board.specs.Space.{Space, target_at}
 use Rattle.board.specs.View.{View}
-use Rattle.board.specs.HartBus.{word_at}
+use Rattle.board_space.specs.Words.{word_at}
 use Rattle.lab_state.specs.Board.{Board}
 use Rattle.lab_state.specs.Hub.{members_of}
 use Rattle.lab_state.specs.Lab.{Lab}

@@ -10,7 +10,7 @@ use Rattle.board.specs.Changes.{with_speed}
 use Rattle.board.specs.New.{reset, reset_core}
 use Rattle.board.specs.Stretch.{stretch}
 use Rattle.board.specs.View.{View}
-use Rattle.board.proofs.CopyLemmas.{plan-copied}
+use Rattle.board_space.proofs.CopyLemmas.{plan-copied}
 use Rattle.board.proofs.NumberLemmas.{cores-stretch}
 use Rattle.lab_state.specs.Board.{Board}
 use Rattle.lab_state.specs.One.{with_view}

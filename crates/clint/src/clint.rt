@@ -14,7 +14,7 @@ const WRAP: u128 = 1 << 64;
 const WORD: u8 = 4;
 
 /// A CLINT, which contracts see as the frequency of its counter and its state.
-#[derive(Drop, Debug)]
+#[derive(Drop)]
 pub struct Clint {
     frequency: u32,
     state: ClintState,

@@ -3,7 +3,7 @@ ghost use Rattle.std.specs.Prelude.{◌≡◌};
 ghost use Rattle.clint.specs.Clint.{clint_reset};
 
 /// All of a CLINT that changes.
-#[derive(Clone, Copy, PartialEq, Eq, Debug)]
+#[derive(Clone, Copy, PartialEq, Eq)]
 pub struct ClintState {
     /// The software interrupt is requested.
     pub msip: bool,

@@ -4,7 +4,7 @@ ghost use Rattle.std.specs.Prelude.{◌≡◌, ◌≤◌, ◌<◌, ◌↔◌, Is
 use std::marker::Model;
 
 /// Up to sixteen bytes, which contracts see as their list.
-#[derive(Clone, Copy, Debug)]
+#[derive(Clone, Copy)]
 pub struct ByteRow {
     bytes: [u8; 16],
     count: usize,

@@ -6,7 +6,7 @@ ghost use Rattle.dev_core.specs.Frame.{held_size};
 use crate::frame_row::FrameRow;
 
 /// All that a CAN controller holds.
-#[derive(Clone, Copy, PartialEq, Eq, Debug)]
+#[derive(Clone, Copy, PartialEq, Eq)]
 pub struct CanState {
     /// RR, RIE, TIE, EIE and OIE at bits 0 to 4; the other bits are 0.
     pub control: u8,

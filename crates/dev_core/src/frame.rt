@@ -6,7 +6,7 @@ use std::marker::Model;
 
 /// A frame with an identifier of 11 bits: a data frame with up to eight bytes, or a remote frame,
 /// which asks for so many bytes and carries none.
-#[derive(Clone, Copy, PartialEq, Eq, Debug)]
+#[derive(Clone, Copy, PartialEq, Eq)]
 pub struct Frame {
     id: u16,
     remote: bool,

@@ -5,7 +5,7 @@ use crate::frame::Frame;
 use std::marker::Model;
 
 /// Up to thirty-two frames, which contracts see as their list.
-#[derive(Clone, Copy, Debug)]
+#[derive(Clone, Copy)]
 pub struct FrameRow {
     frames: [Frame; 32],
     count: usize,

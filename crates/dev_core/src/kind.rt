@@ -6,7 +6,7 @@ ghost use Rattle.dev_core.specs.Kind.{row_of};
 use crate::payload::Payload;
 
 /// The kinds of devices that reach beyond their board.
-#[derive(Clone, Copy, PartialEq, Eq, Debug)]
+#[derive(Clone, Copy, PartialEq, Eq)]
 pub enum Kind {
     /// A serial port, the PC16550D.
     Uart,

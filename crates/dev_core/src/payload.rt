@@ -2,7 +2,7 @@
 use crate::frame::Frame;
 
 /// How a test ended.
-#[derive(Clone, Copy, PartialEq, Eq, Debug)]
+#[derive(Clone, Copy, PartialEq, Eq)]
 pub enum Finish {
     Pass,
     /// The test failed, with a code of its own.
@@ -10,7 +10,7 @@ pub enum Finish {
 }
 
 /// What a device hands to others.
-#[derive(Clone, Copy, PartialEq, Eq, Debug)]
+#[derive(Clone, Copy, PartialEq, Eq)]
 pub enum Payload {
     /// One byte that a UART sent.
     Byte(u8),
@@ -21,7 +21,7 @@ pub enum Payload {
 }
 
 /// What a store makes a device do beyond its own state.
-#[derive(Clone, Copy, PartialEq, Eq, Debug)]
+#[derive(Clone, Copy, PartialEq, Eq)]
 pub enum Effect {
     /// Nothing.
     Quiet,
@@ -30,7 +30,7 @@ pub enum Effect {
 }
 
 /// What became of a payload that was handed to a device.
-#[derive(Clone, Copy, PartialEq, Eq, Debug)]
+#[derive(Clone, Copy, PartialEq, Eq)]
 pub enum Taken {
     /// It waits to be read.
     Kept,

@@ -4,7 +4,7 @@ use crate::payload::Payload;
 use lab_num::{Key, Member};
 
 /// A payload on its way from one device to others, with the key that orders it.
-#[derive(Clone, Copy, PartialEq, Eq, Debug)]
+#[derive(Clone, Copy, PartialEq, Eq)]
 pub struct Post {
     pub key: Key,
     pub from: Member,
@@ -12,7 +12,7 @@ pub struct Post {
 }
 
 /// What a board notes for the log. `dev` is the place of a device among those of its board.
-#[derive(Clone, Copy, PartialEq, Eq, Debug)]
+#[derive(Clone, Copy, PartialEq, Eq)]
 pub enum What {
     /// The shown UART `dev` sent a byte.
     Byte { dev: u8, value: u8 },
@@ -26,7 +26,7 @@ pub enum What {
 
 /// A note of one board for the log, with the key that orders it. The key's number is the note's
 /// among those of its board, counted from 0.
-#[derive(Clone, Copy, PartialEq, Eq, Debug)]
+#[derive(Clone, Copy, PartialEq, Eq)]
 pub struct Entry {
     pub key: Key,
     pub what: What,

@@ -7,7 +7,7 @@ use crate::kind::Kind;
 use crate::uart_state::UartState;
 
 /// All that a device holds.
-#[derive(Clone, Copy, PartialEq, Eq, Debug)]
+#[derive(Clone, Copy, PartialEq, Eq)]
 pub enum DevState {
     Uart(UartState),
     Can(CanState),

@@ -5,7 +5,7 @@ ghost use Rattle.dev_core.specs.Uart.{uart_reset, capacity, is_trigger, IsUartSt
 use crate::byte_row::ByteRow;
 
 /// All that a UART holds.
-#[derive(Clone, Copy, PartialEq, Eq, Debug)]
+#[derive(Clone, Copy, PartialEq, Eq)]
 pub struct UartState {
     /// Interrupt enable, of which bits 4 to 7 are 0.
     pub ier: u8,

@@ -4,7 +4,7 @@ use lab_num::{NoMemory, Rows};
 use std::alloc::{AllocError, AllocFailed};
 
 /// Bytes that stand one after another from an address on, and zeros after them.
-#[derive(Clone, PartialEq, Eq, Debug, Drop)]
+#[derive(Clone, Drop)]
 pub struct Part {
     /// The address of the first byte.
     pub at: u32,
@@ -15,7 +15,7 @@ pub struct Part {
 
 /// What a file gives a board to load. Where two parts give a byte for one address, the later one
 /// counts.
-#[derive(Clone, PartialEq, Eq, Debug, Drop)]
+#[derive(Clone, Drop)]
 pub struct Image {
     /// Where execution begins, if the file says so.
     pub entry: Option<u32>,
@@ -23,7 +23,7 @@ pub struct Image {
 }
 
 /// Why an ELF file is refused. Of several causes the first in this order is told.
-#[derive(Clone, Copy, PartialEq, Eq, Debug)]
+#[derive(Clone, Copy)]
 pub enum ElfFault {
     /// The file is shorter than an ELF header, which has 52 bytes.
     Short,

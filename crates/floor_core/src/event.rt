@@ -3,7 +3,7 @@ use dev_core::Post;
 use lab_num::BoardNo;
 
 /// One step of a worker, or the end of the round.
-#[derive(Clone, Copy, PartialEq, Eq, Debug)]
+#[derive(Clone, Copy)]
 pub enum Event {
     /// A worker takes a board that is at home and gives it a turn of so many slots.
     Claim {
@@ -26,14 +26,14 @@ pub enum Event {
 }
 
 /// A post in the mail, and the board whose job posted it.
-#[derive(Clone, Copy, PartialEq, Eq, Debug)]
+#[derive(Clone, Copy)]
 pub struct Mailed {
     pub by: BoardNo,
     pub post: Post,
 }
 
 /// What became of a list of events. Places count from 0.
-#[derive(Clone, Copy, PartialEq, Eq, Debug)]
+#[derive(Clone, Copy, PartialEq, Eq)]
 pub enum Ran {
     /// All of them happened.
     All,

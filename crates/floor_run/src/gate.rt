@@ -13,7 +13,7 @@ pub trait Gate: Sync {
 }
 
 /// A gate that lets everyone pass at once.
-#[derive(Clone, Copy, Debug)]
+#[derive(Clone, Copy)]
 pub struct NoGate;
 
 impl Gate for NoGate {

@@ -91,7 +91,7 @@ fn comes_to((from, to, speed, first, second, expected): Row) -> bool {
 
 #[test]
 fn slots_are_used_up_to_the_end_of_the_grant(rt: HostRuntime) {
-    for row in &GRANTS {
-        assert!(rt; comes_to(*row), "{row:?}");
+    for (place, row) in GRANTS.iter().enumerate() {
+        assert!(rt; comes_to(*row), "row {place}");
     }
 }

@@ -76,7 +76,8 @@ fn assert_stops(
     rows: &[(&str, Ran, bool)],
 ) -> Result<(), NoMemory> {
     for (text, expected, ended) in rows {
-        assert_eq!(rt; ran(alloc, text)?, (*expected, *ended));
+        let is_so = ran(alloc, text)? == (*expected, *ended);
+        assert!(rt; is_so, "{text}");
     }
     Ok(())
 }

@@ -5,7 +5,7 @@ use std::alloc::{AllocError, AllocFailed};
 /// Why an Intel HEX file is refused. The first line that has a fault tells it. Of one line a wrong
 /// form is told first, then a count that its digits do not have, the sum, the type, and a count
 /// that its type does not have.
-#[derive(Clone, Copy, PartialEq, Eq, Debug)]
+#[derive(Clone, Copy)]
 pub enum HexFault {
     /// The line is not `:` and an even number, at least 10, of hexadecimal digits.
     Form,

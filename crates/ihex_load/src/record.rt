@@ -14,7 +14,7 @@ use lab_num::Rows;
 use std::alloc::Global;
 
 /// What a line says.
-#[derive(PartialEq, Eq, Debug, Drop)]
+#[derive(Drop)]
 pub(crate) enum Record {
     /// The line is blank, or gives a start address, which has no effect.
     Nothing,

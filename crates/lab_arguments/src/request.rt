@@ -2,7 +2,7 @@
 use lab_num::{Micros, NoMemory, Text};
 
 /// What the words ask for.
-#[derive(PartialEq, Eq, Debug, Drop)]
+#[derive(Drop)]
 pub enum Request {
     /// `run SCRIPT [--workers N] [--until TIME]`: take the commands of a script. One that has no
     /// length of its own runs the boards up to lab time `until`, which is one second if not given.
@@ -24,7 +24,7 @@ pub enum Request {
 }
 
 /// Why the words are refused.
-#[derive(Clone, Copy, PartialEq, Eq, Debug)]
+#[derive(Clone, Copy, Debug)]
 pub enum UsageCause {
     /// There is no word, or the first is not `run`, `check` or `gen`.
     Command,
@@ -35,7 +35,7 @@ pub enum UsageCause {
 }
 
 /// Why there is no request.
-#[derive(Clone, Copy, PartialEq, Eq, Debug)]
+#[derive(Clone, Copy)]
 pub enum WordsFault {
     /// The words are refused.
     Usage(UsageCause),

@@ -1,6 +1,6 @@
 -- How the state of a board is spelled: its fields in order.
 use Rattle.std.proofs.Common.{refl, ℕ, List, Bool}
-use Rattle.board.specs.declared.state.BoardState.{BoardState}
+use Rattle.board_space.specs.declared.state.BoardState.{BoardState}
 use Rattle.dev_core.specs.declared.state.DevState.{DevState}
 use Rattle.lab_encoding.specs.Form.{Form, IsLawful}
 use Rattle.lab_encoding.specs.Combine.{byte, flag, list, number, option, via, ◌⊗◌}

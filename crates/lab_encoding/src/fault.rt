@@ -6,7 +6,7 @@ use lab_num::NoMemory;
 use std::alloc::{AllocError, AllocFailed};
 
 /// Why bytes could not be read.
-#[derive(Clone, Copy, PartialEq, Eq, Debug)]
+#[derive(Clone, Copy, PartialEq, Eq)]
 pub enum SnapFault {
     /// The bytes are no spelling.
     Bad,

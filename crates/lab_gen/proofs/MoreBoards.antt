@@ -13,7 +13,7 @@ use Rattle.dev_core.specs.declared.kind.Kind.TheVariants.{Uart}
 use Rattle.board.specs.Changes.{holds_each, with_bytes, with_pc}
 use Rattle.board.specs.New.{new_board, new_space}
 use Rattle.board.specs.View.{View}
-use Rattle.board.proofs.CopyLemmas.{plan-copied}
+use Rattle.board_space.proofs.CopyLemmas.{plan-copied}
 use Rattle.lab_state.specs.Board.{Board}
 use Rattle.lab_num.specs.Change.{change_at}
 use Rattle.lab_num.proofs.NameLemmas.{digits_are}

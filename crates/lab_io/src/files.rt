@@ -4,7 +4,7 @@ ghost use Rattle.lab_io.specs.Known.{grown, Rose};
 ghost use Rattle.lab_io.specs.Held.{Held, IsReadAs, asks};
 
 /// How a read has ended.
-#[derive(Clone, Copy, Debug, PartialEq, Eq)]
+#[derive(Clone, Copy, PartialEq, Eq)]
 pub enum ReadAnswer {
     /// The file was read whole.
     Done,

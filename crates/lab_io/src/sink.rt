@@ -4,7 +4,7 @@ ghost use Rattle.lab_io.specs.Known.{grown, Rose};
 ghost use Rattle.lab_io.specs.Sink.{IsTaken, taken};
 
 /// How one write has ended.
-#[derive(Clone, Copy, Debug, PartialEq, Eq)]
+#[derive(Clone, Copy, PartialEq, Eq)]
 pub enum Wrote {
     /// So many bytes were taken, from the front of the piece.
     Took(usize),
@@ -15,7 +15,7 @@ pub enum Wrote {
 }
 
 /// Why a piece was not written whole.
-#[derive(Clone, Copy, Debug, PartialEq, Eq)]
+#[derive(Clone, Copy, PartialEq, Eq)]
 pub enum WriteFault {
     /// The output had a fault, which it counted.
     Unwritten,

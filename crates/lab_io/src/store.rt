@@ -7,7 +7,7 @@ ghost use Rattle.lab_io.specs.Store.{StoreUse, get_uses, kept_after, put_uses};
 use crate::files::ReadAnswer;
 
 /// How a put has ended.
-#[derive(Clone, Copy, Debug, PartialEq, Eq)]
+#[derive(Clone, Copy, PartialEq, Eq)]
 pub enum StoreAnswer {
     /// The bytes are kept.
     Done,

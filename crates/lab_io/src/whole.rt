@@ -18,7 +18,7 @@ use std::str;
 const MOST_BYTES: usize = 16_777_216;
 
 /// Why a file was not read.
-#[derive(Clone, Copy, Debug, PartialEq, Eq)]
+#[derive(Clone, Copy)]
 pub enum ReadFault {
     /// The read failed, and the files counted it.
     Unread,
@@ -29,7 +29,7 @@ pub enum ReadFault {
 }
 
 /// Why the text of a file was not read.
-#[derive(Clone, Copy, Debug, PartialEq, Eq)]
+#[derive(Clone, Copy, PartialEq, Eq)]
 pub enum TextFault {
     /// The read failed, and the files counted it.
     Unread,

@@ -4,15 +4,15 @@ use std::error::Error;
 use std::fmt;
 
 /// A virtual time or a length of time, in whole microseconds. Times count from lab time 0.
-#[derive(Clone, Copy, PartialEq, Eq, PartialOrd, Ord, Hash, Debug)]
+#[derive(Clone, Copy, PartialEq, Eq, PartialOrd, Ord)]
 pub struct Micros(pub u64);
 
 /// The number of a board: boards count from 0 in order of creation.
-#[derive(Clone, Copy, PartialEq, Eq, PartialOrd, Ord, Hash, Debug)]
+#[derive(Clone, Copy, PartialEq, Eq, PartialOrd, Ord, Hash)]
 pub struct BoardNo(pub u8);
 
 /// The number of a post or of a log entry among those of its board, counted from 0.
-#[derive(Clone, Copy, PartialEq, Eq, PartialOrd, Ord, Hash, Debug)]
+#[derive(Clone, Copy, PartialEq, Eq, PartialOrd, Ord)]
 pub struct PostNo(pub u64);
 
 /// Memory ran out.

@@ -4,7 +4,7 @@ ghost use Rattle.std.specs.Prelude.{◌≡◌, List};
 use std::marker::Model;
 
 /// Items in order, which contracts see as their list.
-#[derive(Clone, Drop, Debug)]
+#[derive(Clone, Drop)]
 pub struct Rows<T> {
     items: Vec<T>,
 }

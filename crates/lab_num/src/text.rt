@@ -10,7 +10,7 @@ use std::marker::Model;
 
 /// A UTF-8 text of its own, which contracts see as the list of its bytes. A map that has texts for
 /// keys is asked by a `&str`.
-#[derive(Clone, Drop, Debug)]
+#[derive(Clone, Drop)]
 pub struct Text {
     text: String,
 }

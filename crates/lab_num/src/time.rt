@@ -7,7 +7,7 @@ use crate::number::Micros;
 use crate::numeral::are_digits;
 
 /// Why a text is no time.
-#[derive(Clone, Copy, PartialEq, Eq, Debug)]
+#[derive(Clone, Copy, PartialEq, Eq)]
 pub enum TimeFault {
     /// It is not of the form of a time.
     Form,

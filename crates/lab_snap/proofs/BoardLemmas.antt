@@ -14,7 +14,7 @@ use Rattle.lab_num.specs.declared.key.Member.{Member}
 use Rattle.lab_num.specs.Name.{is_name}
 use Rattle.lab_num.proofs.ListLemmas.{change_last, All-unmap}
 use Rattle.dev_core.specs.declared.post.Post.{Post}
-use Rattle.board.specs.declared.state.BoardState.{BoardState}
+use Rattle.board_space.specs.declared.state.BoardState.{BoardState}
 use Rattle.board.specs.New.{new_board}
 use Rattle.board.specs.Valid.{IsStateFor}
 use Rattle.board.specs.View.{View}

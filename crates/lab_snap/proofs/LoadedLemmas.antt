@@ -9,7 +9,7 @@ use Rattle.board.specs.BoardState.{board_state, brought_to, controller_to, timer
 use Rattle.board.specs.New.{new_controller, new_timer, size_of}
 use Rattle.board.specs.Valid.{IsBoard, IsStateFor}
 use Rattle.board.specs.View.{View}
-use Rattle.board.proofs.StateLemmas.{controller_back, timer_back}
+use Rattle.board_space.proofs.StateLemmas.{controller_back, timer_back}
 use Rattle.log_text.specs.declared.line.OpenLine.{OpenLine}
 use Rattle.lab_state.specs.Board.{Board}
 use Rattle.lab_state.specs.Hub.{Hub}

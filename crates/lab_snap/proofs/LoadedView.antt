@@ -11,7 +11,8 @@ use Rattle.sys_bus.specs.declared.plan.PlicSize.{PlicSize}
 use Rattle.board.specs.BoardState.{board_state, controller_to, devices_in, timer_to}
 use Rattle.board.specs.New.{new_controller, new_timer, size_of}
 use Rattle.board.specs.Valid.{IsBoard, IsClintFor, IsPlicFor, IsStateFor}
-use Rattle.board.proofs.StateLemmas.{devices_there, flags_there, states_there}
+use Rattle.board.proofs.StateLemmas.{states_there}
+use Rattle.board_space.proofs.StateLemmas.{devices_there, flags_there}
 use Rattle.lab_snap.specs.Inner.Parts.{is_uart, shown_uart}
 use Rattle.lab_snap.specs.Loaded.{loaded_view}
 use Rattle.lab_snap.specs.Machine.{IsMachine, Machine}

@@ -8,7 +8,7 @@ use lab_num::{MOST_DELAY, Member, NoMemory, Rows, Text, is_name};
 use std::alloc::Global;
 
 /// A hub as a snapshot holds it.
-#[derive(PartialEq, Eq, Drop, Debug)]
+#[derive(Drop)]
 pub struct SavedHub {
     /// The kind of devices that it connects.
     pub kind: Kind,

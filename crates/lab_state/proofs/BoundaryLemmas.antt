@@ -1,16 +1,22 @@
 -- The posts at a boundary, one after another: those that are handed over, and those that are kept.
-use Rattle.std.proofs.Common.{◌≡◌, ◌∙◌, sym, ap, Bool, true, not, ℕ, ◌+◌, ◌<◌}
+use Rattle.std.proofs.Common.{◌≡◌, ◌∙◌, refl, sym, ap, Bool, true, not, ℕ, ◌+◌, ◌<◌}
 use Rattle.std.proofs.Common.{List, [], ◌∷◌, ◌++◌, length, fold, get_or, take, append_assoc}
 use Rattle.std.specs.Prelude.{filter}
 use Rattle.std.specs.List.{All}
 use Rattle.std.proofs.lemmas.List.{take_more}
-use Rattle.std.proofs.lemmas.List.Elements.{filter-append}
+use Rattle.std.proofs.lemmas.List.Elements.{All-head, All-tail, filter-append}
 use Rattle.std.proofs.lemmas.List.Sums.{fold-append}
 use Rattle.dev_core.specs.declared.post.Post.{Post}
 use Rattle.lab_state.specs.Boundary.{Handed, to_route, due, not_due}
 use Rattle.lab_state.specs.Hub.{Hub, members_of}
 use Rattle.lab_state.specs.Pending.{is_of_a_hub, is_due}
-use Rattle.lab_state.proofs.UndelayedLemmas.{filter_all}
+
+-- where all pass a test
+pub filter_all : (p : Post → Bool) (posts : List Post) → All (λ post. p post ≡ true) posts → filter p posts ≡ posts
+filter_all p [] all = refl
+filter_all p (x ∷ xs) all =
+    rw (All-head (λ post. p post ≡ true) x xs all)
+    (ap (λ rest. x ∷ rest) (filter_all p xs (All-tail (λ post. p post ≡ true) x xs all)))
 
 module _ (at : ℕ) (hubs : List Hub) where
   -- of these posts, those that are handed over, and those that are kept

@@ -4,7 +4,7 @@ use Rattle.std.specs.Option.{option_map}
 use Rattle.page_ram.specs.Bytes.{zeros}
 use Rattle.board.specs.Changes.{with_bytes}
 use Rattle.board.specs.View.{View}
-use Rattle.board.proofs.CopyLemmas.{plan-copied}
+use Rattle.board_space.proofs.CopyLemmas.{plan-copied}
 use Rattle.lab_state.specs.declared.board_change.BoardChange.{BoardChange}
 use Rattle.lab_state.specs.declared.board_change.BoardChange.TheVariants as change
 use Rattle.lab_state.specs.Board.{Board}

@@ -15,8 +15,7 @@ pub mod RunLemmas
 pub mod EmptyLemmas
 pub mod SentLemmas
 pub mod FaultLemmas
-pub mod HandedLemmas
-pub mod UndelayedLemmas
+pub mod ReachedLemmas
 pub mod ToldLemmas
 pub mod ValidLemmas
 pub mod ResumeLemmas

@@ -21,7 +21,7 @@ use Rattle.dev_core.specs.declared.payload.Payload.{Payload}
 use Rattle.dev_core.specs.declared.payload.Payload.TheVariants as payload
 use Rattle.dev_core.specs.declared.post.Post.{Post}
 use Rattle.sys_bus.specs.Limits.{is_speed}
-use Rattle.board.specs.declared.state.BoardState.{BoardState}
+use Rattle.board_space.specs.declared.state.BoardState.{BoardState}
 use Rattle.board.specs.BoardState.{brought_to}
 use Rattle.board.specs.Sent.{is_of_kind}
 use Rattle.board.specs.Valid.{IsStateFor}

@@ -1,8 +1,8 @@
 -- Rounds one after another.
 use Rattle.std.proofs.Common.{◌≡◌, ◌∙◌, sym, ap, refl, eq-eqb, Bool, true, false, ℕ, ◌+◌, ◌-◌, ◌*◌, ◌/◌, ◌%◌, ◌<◌, inl}
-use Rattle.std.proofs.Common.{inr, List, [], ◌∷◌, ◌++◌, length, take, fold, None, add-one, append_assoc, subst}
+use Rattle.std.proofs.Common.{inr, List, [], ◌∷◌, ◌++◌, length, fold, None, add-one, append_assoc}
 use Rattle.std.proofs.Common.{◌==◌, add-zero, arith}
-use Rattle.std.specs.Prelude.{if◌then◌else◌, filter, min, is_some, IsSome, Option, Some, sum, replicate}
+use Rattle.std.specs.Prelude.{if◌then◌else◌, min, is_some, sum, replicate}
 use Rattle.std.proofs.lemmas.Bool.{cases_lt}
 use Rattle.std.proofs.lemmas.Bool.Decides.{nat_tests}
 use Rattle.std.proofs.lemmas.List.{append-nil, replicate-append-replicate}
@@ -11,21 +11,9 @@ use Rattle.std.proofs.lemmas.List.Sums.{fold-append, sum_by-append, sum_by-cons}
 use Rattle.std.proofs.lemmas.Nat.{div-add-mod'}
 use Rattle.std.proofs.Math.Nat.{mul-add-mod_self_left, mul-add-div, div-add-mod, div-eq_of_lt, mod-eq_of_lt}
 use Rattle.std.proofs.Math.Nat.{add-div_left, add-mod_left, zero-div, zero-mod}
-use Rattle.std.specs.List.Sorted.{IsPermutation}
-use Rattle.std.proofs.lemmas.List.Sorted.{IsPermutation-sym, IsPermutation-trans}
-use Rattle.lab_num.specs.declared.key.Key.{Key}
-use Rattle.dev_core.specs.declared.post.Post.{Post}
-use Rattle.lab_num.specs.Key.{KeysDiffer}
-use Rattle.lab_num.specs.Listing.{IsListing, insert_by_key, listing}
-use Rattle.dev_core.specs.Post.{post_key}
-use Rattle.lab_state.specs.Board.{Board}
-use Rattle.lab_state.specs.Boundary.{boundary, waiting}
-use Rattle.lab_state.specs.Hub.{Hub}
 use Rattle.lab_state.specs.Lab.{Lab}
-use Rattle.lab_state.specs.Pending.{is_of_a_hub}
-use Rattle.lab_state.proofs.PendingLemmas.{filter-listing, rising-filter}
 use Rattle.lab_state.specs.Round.{Rounded, round_by, round}
-use Rattle.lab_state.specs.Run.{Play, rest_of, lengths, followed_by, go_on, still, EndsIn, run_by, run}
+use Rattle.lab_state.specs.Run.{Play, rest_of, lengths, followed_by, go_on, still, run_by, run}
 
 on_quantum :
     (paused : Bool) (run more : Rounded) → more.lab.quantum ≡ run.lab.quantum →
@@ -148,50 +136,6 @@ one_round_more q d run {n = n} some more unpaused least is =
     ap (λ run. fold (go_on round) run (lengths q (d - n))) (is ∙ one)
     ∙ sym (ap (fold (go_on round) run) (first_length q d some more least))
 
--- ---- the order of the posts
-
--- posts before which others come
-listing-append :
-    (front xs ys : List Post) → listing post_key xs ≡ listing post_key ys →
-    listing post_key (front ++ xs) ≡ listing post_key (front ++ ys)
-unfolding listing
-listing-append [] xs ys same = same
-listing-append (x ∷ front) xs ys same = ap (insert_by_key post_key x) (listing-append front xs ys same)
-
-pub boundaries-agree :
-    ((key : Post → Key) (items : List Post) → KeysDiffer key items → IsListing key items (listing key items)) →
-    ((key : Post → Key) (items listed : List Post) → IsListing key items listed → listed ≡ listing key items) →
-    (at : ℕ) (hubs : List Hub) (boards : List Board) (pending posts others : List Post) →
-    KeysDiffer post_key posts → IsPermutation posts others →
-    boundary at hubs boards pending posts ≡ boundary at hubs boards pending others
-unfolding boundary
-boundaries-agree is only at hubs boards pending posts others differ same =
-    let listed = is post_key posts differ in
-    let also : IsListing post_key others (listing post_key posts) = record {
-      members = IsPermutation-trans others posts (listing post_key posts)
-          (IsPermutation-sym posts others same) listed.members;
-      rising = listed.rising;
-    } in
-    let p = is_of_a_hub hubs in
-    let listings : listing post_key posts ≡ listing post_key others =
-    only post_key others (listing post_key posts) also in
-    let first : filter (is_of_a_hub hubs) (listing post_key posts)
-    ≡ listing post_key (filter (is_of_a_hub hubs) posts) =
-    only post_key (filter p posts) (filter p (listing post_key posts))
-    (record { members = filter-listing p posts; rising = rising-filter p (listing post_key posts) listed.rising }) in
-    let second : filter (is_of_a_hub hubs) (listing post_key posts)
-    ≡ listing post_key (filter (is_of_a_hub hubs) others) =
-    only post_key (filter p others) (filter p (listing post_key posts))
-    (record {
-      members =
-          subst (λ (l : List Post). IsPermutation (filter (is_of_a_hub hubs) others) (filter (is_of_a_hub hubs) l))
-          (sym listings) (filter-listing p others);
-      rising = rising-filter p (listing post_key posts) listed.rising;
-    }) in
-    let joined : waiting hubs pending posts ≡ waiting hubs pending others =
-    listing-append pending (filter p posts) (filter p others) (sym first ∙ second) in
-    rw (joined, listings) refl
-
 -- ---- the end of a run
 
 -- a run that has paused goes on no more
@@ -201,33 +145,3 @@ after_pause play run [] is = refl
 after_pause play run (q ∷ qs) is =
     let stays : go_on play run q ≡ run = rw is refl in
     ap (λ run. fold (go_on play) run qs) stays ∙ after_pause play run qs is
-
--- rounds that come to a pause, from a run that has none
-abbrev Ends : Play → Rounded → List ℕ → ℕ → Type 0
-Ends play run qs n =
-    (n < length qs) × ((fold (go_on play) run (take n qs)).paused ≡ None)
-    × (fold (go_on play) run qs ≡ fold (go_on play) run (take (n + 1) qs))
-
-ends :
-    (play : Play) (run : Rounded) (qs : List ℕ) → run.paused ≡ None →
-    is_some (fold (go_on play) run qs).paused ≡ true → (n : ℕ) × Ends play run qs n
-ends play run [] none some = absurd (cc)
-ends play run (q ∷ qs) none some =
-    by_pause (go_on play run q).paused refl (λ still. ends play (go_on play run q) qs still some)
-  where
-    by_pause :
-        (o : Option Key) → (go_on play run q).paused ≡ o →
-        ((go_on play run q).paused ≡ None → (n : ℕ) × Ends play (go_on play run q) qs n) →
-        (n : ℕ) × Ends play run (q ∷ qs) n
-    by_pause None is rest =
-        let found = rest is in
-        (found.0 + 1, (omega (arith, found.1.0), rw add-one found.1.1, rw (add-one, add-one) (rw add-one at found.1.2)))
-    by_pause (Some key) is rest = (0, (omega arith, none, after_pause play (go_on play run q) qs (ap is_some is)))
-
-pub runs-end :
-    (play : Play) (lab : Lab) (d : ℕ) → IsSome (run_by play lab d).paused →
-    (n : ℕ) × EndsIn play lab (lengths lab.quantum d) (run_by play lab d) n
-unfolding run_by
-runs-end play lab d some =
-    let found = ends play (still lab) (lengths lab.quantum d) refl some in
-    (found.0, record { within = found.1.0; none_before = found.1.1; last = found.1.2 })

@@ -1,7 +1,7 @@
 -- A laboratory that goes on from where another one has stood.
 use Rattle.std.specs.Prelude.{◌≡◌, ℕ, List, map, slice_get, Option, Some, None}
 use Rattle.std.specs.List.{zip}
-use Rattle.board.specs.declared.state.BoardState.{BoardState}
+use Rattle.board_space.specs.declared.state.BoardState.{BoardState}
 use Rattle.board.specs.BoardState.{brought_to}
 use Rattle.board.specs.Valid.{IsStateFor}
 use Rattle.board.specs.View.{View}

@@ -3,7 +3,7 @@ use lab_num::{BoardNo, NoMemory};
 use uart_hub::HubFault;
 
 /// Why a board was not added.
-#[derive(Clone, Copy, PartialEq, Eq, Debug)]
+#[derive(Clone, Copy, PartialEq, Eq)]
 pub enum AddFault {
     /// A board or a hub has the name.
     Taken,
@@ -14,7 +14,7 @@ pub enum AddFault {
 }
 
 /// Why a board was not made by a plan.
-#[derive(Clone, Copy, PartialEq, Eq, Debug)]
+#[derive(Clone, Copy)]
 pub enum FitFault {
     /// The board has a plan.
     Has,
@@ -23,7 +23,7 @@ pub enum FitFault {
 }
 
 /// Why a hub was not created.
-#[derive(Clone, Copy, PartialEq, Eq, Debug)]
+#[derive(Clone, Copy)]
 pub enum HubNameFault {
     /// A board or a hub has the name.
     Taken,
@@ -32,7 +32,7 @@ pub enum HubNameFault {
 }
 
 /// Why a device was not connected.
-#[derive(Clone, Copy, PartialEq, Eq, Debug)]
+#[derive(Clone, Copy)]
 pub enum ConnectFault {
     /// No hub has the name.
     Name,
@@ -45,14 +45,14 @@ pub enum ConnectFault {
 }
 
 /// Why a round was not run.
-#[derive(Clone, Copy, PartialEq, Eq, Debug)]
+#[derive(Clone, Copy)]
 pub enum LabFault {
     /// Memory ran out in this round, or the laboratory was spent before. It is spent.
     Memory,
 }
 
 /// Why a run may not be made.
-#[derive(Clone, Copy, PartialEq, Eq, Debug)]
+#[derive(Clone, Copy)]
 pub enum RunCause {
     /// A board, the first of these, has no plan.
     NoPlan(BoardNo),
@@ -61,7 +61,7 @@ pub enum RunCause {
 }
 
 /// Why a run was not made.
-#[derive(Clone, Copy, PartialEq, Eq, Debug)]
+#[derive(Clone, Copy)]
 pub enum RunFault {
     /// A board, the first of these, has no plan.
     NoPlan(BoardNo),

@@ -1,28 +1,16 @@
 //! Laws of rounds and runs. Each is the contract of a function that does nothing when it runs.
-ghost use Rattle.std.specs.Prelude.{◌≡◌, ℕ, ◌+◌, ◌%◌, ◌<◌, ◌≤◌, ◌⊎◌, false, List, [], ◌++◌};
-ghost use Rattle.std.specs.Prelude.{map, filter, sum, All, None, IsSome};
-ghost use Rattle.std.specs.List.Sorted.{IsPermutation, IsStrictlySortedBy};
+ghost use Rattle.std.specs.Prelude.{◌≡◌, ℕ, ◌+◌, ◌%◌, ◌<◌, ◌≤◌, false, List};
+ghost use Rattle.std.specs.Prelude.{All, None};
 ghost use Rattle.dev_core.specs.declared.post.Post.{Post};
-ghost use Rattle.lab_num.specs.Key.{key_cmp, KeysDiffer};
-ghost use Rattle.dev_core.specs.Post.{post_key};
-ghost use Rattle.lab_state.specs.Board.{Board};
-ghost use Rattle.lab_state.specs.Boundary.{boundary};
-ghost use Rattle.lab_state.specs.Handed.{sent_in, handed_in, handed_over, is_of_hub};
-ghost use Rattle.lab_state.specs.Handed.{slots_in, after_handing, pause_in};
-ghost use Rattle.lab_state.specs.Hub.{Hub};
 ghost use Rattle.lab_state.specs.Lab.{Lab as Laboratory};
-ghost use Rattle.lab_state.specs.Pending.{due_at, is_of_a_hub};
-ghost use Rattle.lab_state.specs.Round.{round};
-ghost use Rattle.lab_state.specs.Run.{Play, run, run_by, followed_by, lengths, still, EndsIn};
+ghost use Rattle.lab_state.specs.Run.{run, followed_by};
 ghost use Rattle.lab_state.specs.Turns.{Cut, IsWhole, run_in_turns};
-ghost use Rattle.lab_state.specs.Undelayed.{AreUndelayed, undelayed_round};
-ghost use Rattle.lab_state.specs.Valid.{is_shown_before, IsOpen};
+ghost use Rattle.lab_state.specs.Valid.{IsOpen};
 ghost use Rattle.log_text.specs.declared.line.OpenLine.{OpenLine};
-ghost use Rattle.log_text.specs.Log.{open_lines, IsOnBytes};
+ghost use Rattle.log_text.specs.Log.{open_lines};
 
 use crate::lab::Lab;
-use dev_core::{Device, Post as BoardPost};
-use lab_num::{key_laws, listing_laws};
+use dev_core::Device;
 
 /// A run of a whole number of quanta that does not pause and the run after it are one run.
 pub fn runs_join()
@@ -31,64 +19,12 @@ pub fn runs_join()
         run lab (d + e) ≡ followed_by (run lab d) (run (run lab d).lab e) }
 {}
 
-/// A run that has a pause ends in the round in which it was asked for: no round before has one, and
-/// none comes after.
-pub fn runs_end()
-    ensures { (play : Play) (lab : Laboratory) (d : ℕ) → IsSome (run_by play lab d).paused →
-        (n : ℕ) × EndsIn play lab (lengths lab.quantum d) (run_by play lab d) n }
-{}
-
 /// However the boards take the slots of their grants in turns, a run is the same: the laboratory
 /// after it, and the items of the log.
 pub fn turns_agree()
     ensures { (cut : Cut) → IsWhole cut → (lab : Laboratory) (d : ℕ) → run_in_turns cut lab d ≡ run lab d }
 {
     board::laws::turns_join();
-}
-
-/// What a boundary comes to does not depend on the order in which the posts were gathered.
-pub fn boundaries_agree()
-    ensures { (at : ℕ) (hubs : List Hub) (boards : List Board) (pending posts others : List Post) →
-        KeysDiffer post_key posts → IsPermutation posts others →
-        boundary at hubs boards pending posts ≡ boundary at hubs boards pending others }
-{
-    listing_laws::<BoardPost>();
-}
-
-/// A run of no time has no boundary, so nothing is handed over by it: it changes nothing.
-pub fn runs_of_no_time_change_nothing()
-    ensures { (lab : Laboratory) → 0 < lab.quantum → run lab 0 ≡ still lab }
-{}
-
-/// Where no hub holds anything back and nothing waits, a round hands over at its end all that was sent
-/// in it, and nothing waits after it.
-pub fn undelayed_rounds_agree<D: Device>(lab: &Lab<D>)
-    requires { lab.now.spent ≡ false }
-    ensures round { (q : ℕ) → lab.now.lab.now + q ≤ 10000000000 →
-        AreUndelayed lab.now.lab.hubs → lab.now.lab.pending ≡ [] →
-        round lab.now.lab q ≡ undelayed_round lab.now.lab q }
-    ensures none { (q : ℕ) → lab.now.lab.now + q ≤ 10000000000 →
-        AreUndelayed lab.now.lab.hubs → lab.now.lab.pending ≡ [] →
-        (round lab.now.lab q).lab.pending ≡ [] }
-{
-    let _spent = lab.spent;
-    board::laws::stretches_number();
-    board::laws::stretches_keep_time();
-    listing_laws::<BoardPost>();
-}
-
-/// What a run tells the log of bytes it tells of UARTs that were shown when it began, and of times before
-/// its end.
-pub fn runs_tell_of_shown_devices<D: Device>(lab: &Lab<D>)
-    requires { lab.now.spent ≡ false }
-    ensures { (d : ℕ) → lab.now.lab.now + d ≤ 10000000000 →
-        All (IsOnBytes (is_shown_before lab.now.lab (run lab.now.lab d).lab.now)) (run lab.now.lab d).items }
-{
-    let _spent = lab.spent;
-    board::laws::stretches_number();
-    board::laws::stretches_keep_time_of_entries();
-    board::laws::stretches_tell_of_devices();
-    board::laws::stretches_keep_devices();
 }
 
 /// Lines of shown UARTs that are open before a run, and those that its log leaves open, are open in the
@@ -106,51 +42,3 @@ pub fn runs_keep_lines_open<D: Device>(lab: &Lab<D>)
     board::laws::stretches_keep_devices();
     log_text::laws::open_lines_come_of_bytes();
 }
-
-/// In rounds of any lengths, however a run is cut into them, what the devices of one hub have sent is
-/// handed over in rising order of key.
-pub fn hubs_keep_order<D: Device>(lab: &Lab<D>)
-    requires { lab.now.spent ≡ false }
-    ensures { (qs : List ℕ) → lab.now.lab.now + sum qs ≤ 10000000000 →
-        (n : ℕ) → IsStrictlySortedBy key_cmp (map post_key
-        (filter (is_of_hub lab.now.lab.hubs n) (handed_over lab.now.lab qs))) }
-{
-    let _spent = lab.spent;
-    board::laws::stretches_number();
-    board::laws::stretches_keep_time();
-    listing_laws::<BoardPost>();
-}
-
-/// In rounds of any lengths no post is handed over twice: the keys of what is handed over differ.
-/// What is handed over at the end of a round is due by then. It was sent in that round, or was not due
-/// when the round began.
-pub fn posts_are_handed_over_once<D: Device>(lab: &Lab<D>)
-    requires { lab.now.spent ≡ false }
-    ensures once { (qs : List ℕ) → lab.now.lab.now + sum qs ≤ 10000000000 →
-        KeysDiffer post_key (handed_over lab.now.lab qs) }
-    ensures due { (q : ℕ) →
-        All (λ post. due_at lab.now.lab.hubs post ≤ lab.now.lab.now + q)
-        (handed_in lab.now.lab q) }
-    ensures first { (q : ℕ) → lab.now.lab.now + q ≤ 10000000000 →
-        All (λ post. (lab.now.lab.now < due_at lab.now.lab.hubs post)
-        ⊎ (lab.now.lab.now ≤ post.key.at.0)) (handed_in lab.now.lab q) }
-{
-    let _spent = lab.spent;
-    key_laws();
-    board::laws::stretches_number();
-    board::laws::stretches_keep_time();
-    listing_laws::<BoardPost>();
-}
-
-/// What was pending and what is sent in a round for other devices is handed over at its end or is pending
-/// after it: all of it, each post once. The boards are handed that, and nothing else, after they have
-/// taken their slots, and the log notes what came of that.
-pub fn rounds_lose_nothing()
-    ensures all { (lab : Laboratory) (q : ℕ) → IsPermutation
-        (lab.pending ++ filter (is_of_a_hub lab.hubs) (sent_in lab q))
-        (handed_in lab q ++ (round lab q).lab.pending) }
-    ensures boards { (lab : Laboratory) (q : ℕ) →
-        (round lab q).lab.boards ≡ (after_handing lab q).boards }
-    ensures items { (lab : Laboratory) (q : ℕ) → (round lab q).items
-        ≡ slots_in lab q ++ (after_handing lab q).notes ++ pause_in lab q }
-{}

@@ -36,7 +36,7 @@ use std::thread::Threads;
 use time_source::Source;
 
 /// What a round or a run has come to.
-#[derive(PartialEq, Eq, Drop, Debug)]
+#[derive(Drop)]
 pub struct RoundLog {
     /// The items of the log, in its order.
     pub lines: Rows<LogItem>,

@@ -8,7 +8,7 @@ use lab_num::NoMemory;
 use monitor::ScriptFault;
 
 /// How a run of the program ends.
-#[derive(Drop, Debug)]
+#[derive(Drop)]
 pub enum Status {
     /// All was done and written.
     Done,

@@ -3,14 +3,14 @@ use dev_core::{Finish, Frame, What};
 use lab_num::{BoardNo, Member, Micros};
 
 /// A time on a board.
-#[derive(Clone, Copy, PartialEq, Eq, Debug)]
+#[derive(Clone, Copy, PartialEq, Eq)]
 pub struct Member0 {
     pub at: Micros,
     pub board: BoardNo,
 }
 
 /// What became of a payload that a shown device was handed at a boundary.
-#[derive(Clone, Copy, PartialEq, Eq, Debug)]
+#[derive(Clone, Copy, PartialEq, Eq)]
 pub enum Note {
     /// A byte came for which there was no room: it was lost, or took the place of the one that was
     /// held.
@@ -22,7 +22,7 @@ pub enum Note {
 }
 
 /// One item of the log.
-#[derive(Clone, Copy, PartialEq, Eq, Debug)]
+#[derive(Clone, Copy, PartialEq, Eq)]
 pub enum LogItem {
     /// What a board noted in one of its slots.
     Slot(Member0, What),

@@ -18,7 +18,7 @@ const MOST_BYTES: usize = 128;
 
 /// The line of a UART: the bytes that it has sent since its last line ended, and the time of the
 /// last of them. One that `Lines` holds has 1 to 127 bytes, none of them a line feed.
-#[derive(Clone, PartialEq, Eq, Drop, Debug)]
+#[derive(Clone, PartialEq, Eq, Drop)]
 pub struct OpenLine {
     pub member: Member,
     pub at: Micros,

@@ -17,7 +17,7 @@ use std::mem;
 
 /// The lines that have bytes and are not ended, which contracts see as their list, rising by
 /// member.
-#[derive(Drop, Debug)]
+#[derive(Drop)]
 pub struct Lines {
     alloc: Global,
     lines: Vec<OpenLine>,

@@ -18,7 +18,7 @@ use Rattle.sys_bus.specs.Region.{target_of}
 use Rattle.board.specs.Changes.{cleared, copied, holds_each, in_memory, is_memory, with_bytes}
 use Rattle.board.specs.Space.{Space}
 use Rattle.board.specs.View.{View}
-use Rattle.board.proofs.CopyLemmas.{copied-append, plan-copied}
+use Rattle.board_space.proofs.CopyLemmas.{copied-append, plan-copied}
 use Rattle.rv_hart.specs.Core.{alignment}
 use Rattle.lab_state.specs.Board.{Board}
 use Rattle.lab_num.specs.Change.{change_at}

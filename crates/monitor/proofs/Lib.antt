@@ -6,11 +6,9 @@ pub mod ImageLemmas
 pub mod Joining
 pub mod Loads
 pub mod MachineNames
-pub mod MapLemmas
 pub mod MemoryLemmas
 pub mod NameLemmas
 pub mod OpenLemmas
-pub mod PlaceLemmas
 pub mod Rounds
 pub mod Ruled
 pub mod RunLemmas

@@ -10,7 +10,7 @@ use resc_vars::ScriptCause;
 use std::fmt;
 
 /// Why a run is refused at a place in a file.
-#[derive(Clone, Copy, PartialEq, Eq, Debug)]
+#[derive(Clone, Copy)]
 pub enum Cause {
     /// S1 to S21: by a line of a script, or as a file that is too large or no text.
     Script(ScriptCause),
@@ -91,7 +91,7 @@ impl fmt::Display for Cause {
 }
 
 /// A fault, and where it is: the file's name and the line, counted from 1, or 0 for a whole file.
-#[derive(Drop, Debug)]
+#[derive(Drop)]
 pub struct ScriptFault {
     pub file: Text,
     pub line: u32,

@@ -5,7 +5,7 @@ use lab_state::RunCause;
 use resc_read::LineFault;
 
 /// Why the monitor does not go on after a command whose text goes to an output.
-#[derive(Drop, Debug)]
+#[derive(Drop)]
 pub(crate) enum Halt {
     /// The command stops it, and nothing is written.
     Stop(Stop),

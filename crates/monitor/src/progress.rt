@@ -4,7 +4,7 @@ use lab_io::WriteFault;
 use lab_num::Text as Name;
 
 /// What the next command of a script has done, where what it prints goes to an output.
-#[derive(Drop, Debug)]
+#[derive(Drop)]
 pub enum Progress {
     /// It was carried out, and what it prints is written.
     Done,

@@ -2,7 +2,7 @@
 use lab_num::Micros;
 
 /// How a script is run.
-#[derive(Clone, Copy, PartialEq, Eq, Debug)]
+#[derive(Clone, Copy)]
 pub struct Setting {
     /// How many workers take the slots of boards, 1 to 8. The number changes nothing that is seen.
     pub workers: u8,

@@ -3,7 +3,7 @@ use crate::fault::ScriptFault;
 use lab_num::{Rows, Text as Name};
 
 /// What the next command of a script has done.
-#[derive(Drop, Debug)]
+#[derive(Drop)]
 pub enum Step {
     /// It was carried out, and prints this.
     Text(Rows<u8>),

@@ -9,14 +9,14 @@ use resc_vars::{FlowFault, ScriptCause};
 use std::alloc::{AllocError, AllocFailed, Global};
 
 /// What is asked of the store, under a name.
-#[derive(Drop, Debug)]
+#[derive(Drop)]
 pub(crate) enum Storing {
     Save(Text),
     Load(Text),
 }
 
 /// Why the monitor does not go on after a command.
-#[derive(Drop, Debug)]
+#[derive(Drop)]
 pub(crate) enum Stop {
     /// The command is for the store, and then the script goes on.
     Store(Storing),

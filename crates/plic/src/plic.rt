@@ -11,7 +11,7 @@ use std::marker::Model;
 const LEVEL: u32 = 7;
 
 /// A PLIC, which contracts see as how many sources and contexts it has, and its state.
-#[derive(Drop, Debug)]
+#[derive(Drop)]
 pub struct Plic {
     sources: u8,
     contexts: u8,

@@ -5,7 +5,7 @@ ghost use Rattle.plic.specs.State.{IsPlicState, plic_reset};
 use crate::valid::is_valid;
 
 /// All of a PLIC that changes. What is said of a source stands at the bit or place of its number.
-#[derive(Clone, Copy, PartialEq, Eq, Debug)]
+#[derive(Clone, Copy)]
 pub struct PlicState {
     /// 0 to 7; a source of priority 0 never interrupts.
     pub priorities: [u8; 128],

@@ -7,7 +7,7 @@ use repl_read::PlatCause;
 use std::alloc::{AllocError, AllocFailed, Global};
 
 /// What is wrong with a platform file.
-#[derive(Clone, Copy, PartialEq, Eq, Debug)]
+#[derive(Clone, Copy)]
 pub enum FileCause {
     /// The line names a file, and 8 bodies are open, or 64 files were read.
     Depth,
@@ -20,7 +20,7 @@ pub enum FileCause {
 }
 
 /// A fault of a platform file: its name, the line from 1 on, and the cause.
-#[derive(Drop, Debug)]
+#[derive(Drop)]
 pub struct FileFault {
     pub file: Text,
     pub line: u32,
@@ -28,7 +28,7 @@ pub struct FileFault {
 }
 
 /// Why a platform's files are not loaded.
-#[derive(Drop, Debug)]
+#[derive(Drop)]
 pub enum LoadFault {
     /// The first fault of a file.
     At(FileFault),

@@ -20,7 +20,7 @@ use std::alloc::Global;
 const MOST_FILES: usize = 64;
 
 /// The platform that one command loads.
-#[derive(Drop, Debug)]
+#[derive(Drop)]
 pub struct Loaded {
     /// The names of the files in the order of reading. A file that was read twice has two places.
     pub names: Vec<Text>,

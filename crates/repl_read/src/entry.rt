@@ -2,7 +2,7 @@
 use lab_num::{Rows, Text};
 
 /// One entry: its head, the attributes and wires that belong to it, and where it stands.
-#[derive(PartialEq, Eq, Drop, Debug)]
+#[derive(Drop)]
 pub struct Entry {
     /// The number of the file, 0 for the text that was read.
     pub file: u32,
@@ -14,7 +14,7 @@ pub struct Entry {
 }
 
 /// The first line of an entry.
-#[derive(PartialEq, Eq, Drop, Debug)]
+#[derive(Drop)]
 pub enum Head {
     /// The entries of the file of this name stand here.
     Using(Text),
@@ -25,7 +25,7 @@ pub enum Head {
 }
 
 /// Where a peripheral is registered.
-#[derive(Clone, Copy, PartialEq, Eq, Debug)]
+#[derive(Clone, Copy)]
 pub enum Place {
     /// Nowhere.
     Absent,
@@ -38,14 +38,14 @@ pub enum Place {
 }
 
 /// One item of an entry, and its line, from 1 on.
-#[derive(PartialEq, Eq, Drop, Debug)]
+#[derive(Drop)]
 pub struct Item {
     pub line: u32,
     pub what: ItemWhat,
 }
 
 /// What an item says.
-#[derive(Clone, PartialEq, Eq, Drop, Debug)]
+#[derive(Clone, Drop)]
 pub enum ItemWhat {
     /// A value for the attribute `key`.
     Attribute { key: Text, value: Value },
@@ -54,7 +54,7 @@ pub enum ItemWhat {
 }
 
 /// The value of an attribute.
-#[derive(Clone, PartialEq, Eq, Drop, Debug)]
+#[derive(Clone, Drop)]
 pub enum Value {
     Number(u32),
     /// A string, without its quotes.
@@ -65,7 +65,7 @@ pub enum Value {
 }
 
 /// One end of a wire.
-#[derive(Clone, PartialEq, Eq, Drop, Debug)]
+#[derive(Clone, Drop)]
 pub enum Ends {
     Absent,
     /// The one interrupt line of a peripheral that has one.
@@ -75,7 +75,7 @@ pub enum Ends {
 }
 
 /// The numbers from `first` to `last`, both included. A number alone has the two equal.
-#[derive(Clone, Copy, PartialEq, Eq, Debug)]
+#[derive(Clone, Copy)]
 pub struct Span {
     pub first: u32,
     pub last: u32,

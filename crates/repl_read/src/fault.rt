@@ -4,7 +4,7 @@ use std::alloc::{AllocError, AllocFailed};
 
 /// What is wrong with an entry or an item of a platform. Reading the text tells `Form` and
 /// `Feature` alone; building a board from the entries tells the others.
-#[derive(Clone, Copy, PartialEq, Eq, Debug)]
+#[derive(Clone, Copy)]
 pub enum PlatCause {
     /// The line has no form of platform text.
     Form,
@@ -33,7 +33,7 @@ pub enum PlatCause {
 }
 
 /// Why a platform is refused.
-#[derive(Clone, Copy, PartialEq, Eq, Debug)]
+#[derive(Clone, Copy)]
 pub enum PlatFault {
     /// The first fault: the number of its file, its line from 1 on, and the cause.
     At {

@@ -4,7 +4,7 @@ use std::alloc::{AllocError, AllocFailed};
 
 /// What a line of a script asks for. A `name`, `dev`, `hub` or `cpu` is its word without quotes; a
 /// prefix `sysbus.` of it stays.
-#[derive(Debug, Drop)]
+#[derive(Drop)]
 pub enum Command {
     /// `mach create [name]`: make a board and select it.
     Create { name: Option<Text> },
@@ -73,7 +73,7 @@ pub enum LineCause {
 }
 
 /// Why a line is not read as a command.
-#[derive(Clone, Copy, PartialEq, Eq, Debug)]
+#[derive(Clone, Copy, PartialEq, Eq)]
 pub enum LineFault {
     /// Its first words are no command.
     Unknown,

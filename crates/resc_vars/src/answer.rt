@@ -3,7 +3,7 @@ use crate::cause::ScriptCause;
 use lab_num::{NoMemory, Text};
 
 /// The next line of a script.
-#[derive(Drop, Debug)]
+#[derive(Drop)]
 pub enum Next {
     /// A line with a command, whose variables are replaced, and where it stands: the name of its
     /// file and its line, counted from 1.
@@ -25,7 +25,7 @@ pub enum Next {
 }
 
 /// Why a body is not opened.
-#[derive(Clone, Copy, PartialEq, Eq, Debug)]
+#[derive(Clone, Copy)]
 pub enum FlowFault {
     /// 8 bodies are open beside the script.
     Depth,

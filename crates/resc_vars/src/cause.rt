@@ -5,7 +5,7 @@ ghost use Rattle.resc_vars.specs.Cause.{script_cause_text};
 use std::fmt;
 
 /// Why a line of a script is refused, in the order of their codes.
-#[derive(Clone, Copy, PartialEq, Eq, Debug)]
+#[derive(Clone, Copy)]
 pub enum ScriptCause {
     /// S1: the first words of the line are no command's.
     Unknown,

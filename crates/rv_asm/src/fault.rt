@@ -14,7 +14,7 @@ pub enum AsmCause {
 }
 
 /// Why a text is not assembled.
-#[derive(Clone, Copy, PartialEq, Eq, Debug)]
+#[derive(Clone, Copy, Debug)]
 pub enum AsmFault {
     /// The first line with a fault: its number, from 1 on, and the cause, the first in the order of
     /// `AsmCause`.

@@ -2,7 +2,7 @@
 
 /// An atomic instruction's name, in the order of the listing of RV32A in chapter 24 of the RISC-V
 /// Unprivileged ISA, version 20191213.
-#[derive(Clone, Copy, PartialEq, Eq, Debug)]
+#[derive(Clone, Copy, PartialEq, Eq)]
 pub enum AtomicOp {
     /// Loads a word and reserves it.
     Lr,
@@ -26,7 +26,7 @@ pub enum AtomicOp {
 
 /// An atomic instruction and its registers, by their numbers, 0 to 31. The address is in `rs1`. `Lr`
 /// has no `rs2`, which is 0 there.
-#[derive(Clone, Copy, PartialEq, Eq, Debug)]
+#[derive(Clone, Copy, PartialEq, Eq)]
 pub struct Atomic {
     pub op: AtomicOp,
     pub rd: u8,

@@ -3,7 +3,7 @@ use crate::atomic::Atomic;
 use rv_exec::Fetched;
 
 /// What a slot does.
-#[derive(Clone, Copy, PartialEq, Eq, Debug)]
+#[derive(Clone, Copy)]
 pub enum Shared {
     /// What was fetched, by the rules of a hart alone.
     Plain(Fetched),

@@ -12,7 +12,7 @@ use std::marker::Model;
 
 /// The reservations of one to four harts: for each the address of the word that it has reserved, or
 /// none.
-#[derive(Drop, Debug)]
+#[derive(Drop)]
 pub struct Watch {
     harts: u8,
     /// Those of the harts that there are come first.

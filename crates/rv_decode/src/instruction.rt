@@ -6,7 +6,7 @@ ghost use Rattle.rv_decode.specs.Table.{row_of};
 /// An instruction's name, in the order of the listing in chapter 24 of the RISC-V Unprivileged ISA,
 /// version 20191213: RV32I, Zifencei, Zicsr and M. The last two are of the RISC-V Privileged
 /// Architecture, version 20211203.
-#[derive(Clone, Copy, PartialEq, Eq, Debug)]
+#[derive(Clone, Copy, PartialEq, Eq)]
 pub enum Op {
     // RV32I: upper immediates, jumps and branches
     Lui,
@@ -77,7 +77,7 @@ pub enum Op {
 }
 
 /// How the bits of a word are split into fields (RISC-V Unprivileged ISA, section 2.3).
-#[derive(Clone, Copy, PartialEq, Eq, Debug)]
+#[derive(Clone, Copy)]
 pub enum Format {
     R,
     I,
@@ -99,7 +99,7 @@ pub enum Format {
 /// `rd`, `rs1` and `rs2` are numbers of registers, 0 to 31. `imm` is the immediate, sign-extended
 /// to 32 bits; in format U it is the word with its lower 12 bits cleared. In the variants of format
 /// I it is as `Format` says.
-#[derive(Clone, Copy, PartialEq, Eq, Debug)]
+#[derive(Clone, Copy, PartialEq, Eq)]
 pub struct Instr {
     pub op: Op,
     pub rd: u8,

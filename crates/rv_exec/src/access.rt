@@ -16,7 +16,7 @@ use rv_decode::Instr;
 use rv_hart::{Exception, Hart};
 
 /// How a loaded number fills a register.
-#[derive(Clone, Copy, PartialEq, Eq, Debug)]
+#[derive(Clone, Copy)]
 pub enum Shape {
     /// With zeros above.
     Unsigned,

@@ -19,7 +19,7 @@ use rv_decode::Instr;
 use rv_hart::{Counter, CsrFault, Exception, Hart, Lines, counter_of};
 
 /// What becomes of a CSR by an operand.
-#[derive(Clone, Copy, PartialEq, Eq, Debug)]
+#[derive(Clone, Copy)]
 pub enum CsrChange {
     /// The operand is written.
     Write,

@@ -10,7 +10,7 @@ use crate::alu::add;
 use rv_hart::{Counter, Exception, Hart};
 
 /// How an instruction ends, as far as the counters of its slot go.
-#[derive(Clone, Copy, PartialEq, Eq, Debug)]
+#[derive(Clone, Copy)]
 pub enum Ending {
     /// It retires, and has written a half of this counter.
     Retired(Option<Counter>),

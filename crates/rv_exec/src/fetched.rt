@@ -8,7 +8,7 @@ use crate::bus::Bus;
 use rv_decode::{Instr, decode};
 
 /// What a slot finds at the hart's pc.
-#[derive(Clone, Copy, PartialEq, Eq, Debug)]
+#[derive(Clone, Copy)]
 pub enum Fetched {
     /// No memory holds what is needed at this address.
     Fault(u32),

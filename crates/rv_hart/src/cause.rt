@@ -3,7 +3,7 @@ ghost use Rattle.std.specs.Prelude.{◌≡◌};
 ghost use Rattle.rv_hart.specs.Cause.{cause_of};
 
 /// The exceptions of a hart with machine mode alone and no virtual memory.
-#[derive(Clone, Copy, PartialEq, Eq, Debug)]
+#[derive(Clone, Copy)]
 pub enum Exception {
     InstructionAddressMisaligned = 0,
     InstructionAccessFault = 1,

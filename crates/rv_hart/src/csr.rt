@@ -2,7 +2,7 @@
 
 /// What a slot sees from outside the hart: the pending interrupts and the time of the board's
 /// timer.
-#[derive(Clone, Copy, PartialEq, Eq, Debug)]
+#[derive(Clone, Copy)]
 pub struct Lines {
     /// The lines of the interrupts, at bits 3, 7 and 11; other bits are not read.
     pub mip: u32,
@@ -11,7 +11,7 @@ pub struct Lines {
 }
 
 /// Why a CSR was not read or written.
-#[derive(Clone, Copy, PartialEq, Eq, Debug)]
+#[derive(Clone, Copy, PartialEq, Eq)]
 pub enum CsrFault {
     /// There is no CSR of this number, or it is read-only and was to be written.
     Illegal,

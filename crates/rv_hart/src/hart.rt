@@ -12,7 +12,7 @@ use crate::state::{HartState, is_hart_state};
 use std::marker::Model;
 
 /// A hart of RV32IM, with the extensions of its letters, with machine mode alone.
-#[derive(Clone, Copy, PartialEq, Eq, Debug)]
+#[derive(Clone, Copy, PartialEq, Eq)]
 pub struct Hart {
     state: HartState,
 }

@@ -4,7 +4,7 @@ ghost use Rattle.rv_hart.specs.Core.{alignment};
 ghost use Rattle.rv_hart.specs.Csr.{extensions, return_bits};
 
 /// The extensions that a hart has beside the base instructions and M, by their letters in misa.
-#[derive(Clone, Copy, PartialEq, Eq, Debug)]
+#[derive(Clone, Copy, PartialEq, Eq)]
 pub struct Letters {
     /// Atomic instructions.
     pub a: bool,

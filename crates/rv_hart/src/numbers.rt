@@ -51,7 +51,7 @@ pub const MIMPID: u32 = 0xF13;
 pub const MHARTID: u32 = 0xF14;
 
 /// A counter that rises by itself.
-#[derive(Clone, Copy, PartialEq, Eq, Debug)]
+#[derive(Clone, Copy)]
 pub enum Counter {
     Mcycle,
     Minstret,

@@ -11,7 +11,7 @@ pub const MOST_HARTS: usize = 4;
 
 /// All that a hart holds: its registers, the fields of the CSRs that hold a value, two switches, its
 /// optional extensions and its number.
-#[derive(Clone, Copy, PartialEq, Eq, Debug)]
+#[derive(Clone, Copy, PartialEq, Eq)]
 pub struct HartState {
     /// x0 to x31, of which x0 is 0.
     pub registers: [u32; 32],

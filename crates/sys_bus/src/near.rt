@@ -4,7 +4,7 @@ ghost use Rattle.std.specs.Prelude.{◌≡◌, ◌+◌, ◌-◌, ◌≤◌, ◌^
 use crate::region::Region;
 
 /// A place in a memory. `at` counts in bytes from its first.
-#[derive(Clone, Copy, PartialEq, Eq, Debug)]
+#[derive(Clone, Copy, PartialEq, Eq)]
 pub struct MemoryPlace {
     pub part: u8,
     pub at: u32,

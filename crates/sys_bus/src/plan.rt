@@ -15,7 +15,7 @@ use lab_num::{Rows, Text};
 use rv_hart::Letters;
 
 /// What a name of a platform stands for.
-#[derive(Clone, Copy, PartialEq, Eq, Debug)]
+#[derive(Clone, Copy, PartialEq, Eq)]
 pub enum NamedWhat {
     /// A processor.
     Cpu,
@@ -23,21 +23,21 @@ pub enum NamedWhat {
 }
 
 /// A name of a platform.
-#[derive(Drop, Debug)]
+#[derive(Drop)]
 pub struct Named {
     pub name: Text,
     pub what: NamedWhat,
 }
 
 /// How many sources and contexts an interrupt controller has.
-#[derive(Clone, Copy, PartialEq, Eq, Debug)]
+#[derive(Clone, Copy)]
 pub struct PlicSize {
     pub sources: u8,
     pub contexts: u8,
 }
 
 /// What a board is made of.
-#[derive(Drop, Debug)]
+#[derive(Drop)]
 pub struct BoardPlan {
     pub names: Rows<Named>,
     pub regions: Rows<Region>,

@@ -3,7 +3,7 @@ ghost use Rattle.std.specs.Prelude.{◌≡◌, ◌≤◌, ◌+◌};
 ghost use Rattle.sys_bus.specs.Region.{holds, overlaps, same_part, target};
 
 /// What stands in a region.
-#[derive(Clone, Copy, PartialEq, Eq, Debug)]
+#[derive(Clone, Copy, PartialEq, Eq)]
 pub enum RegionKind {
     /// The memory of this number.
     Ram(u8),
@@ -16,7 +16,7 @@ pub enum RegionKind {
 }
 
 /// A range of addresses in bytes, and what stands there.
-#[derive(Clone, Copy, PartialEq, Eq, Debug)]
+#[derive(Clone, Copy)]
 pub struct Region {
     pub base: u32,
     pub size: u32,
@@ -26,7 +26,7 @@ pub struct Region {
 }
 
 /// What an access belongs to. `at` counts in bytes from the base of the region.
-#[derive(Clone, Copy, PartialEq, Eq, Debug)]
+#[derive(Clone, Copy, PartialEq, Eq)]
 pub enum Target {
     Ram { part: u8, at: u32 },
     Clint { at: u32 },

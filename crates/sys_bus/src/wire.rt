@@ -9,7 +9,7 @@ use dev_core::Kind;
 use rv_hart::{EXTERNAL_INTERRUPT, SOFTWARE_INTERRUPT, TIMER_INTERRUPT};
 
 /// The line that a wire begins at.
-#[derive(Clone, Copy, PartialEq, Eq, Debug)]
+#[derive(Clone, Copy)]
 pub enum WireFrom {
     /// The software interrupt of the timer.
     Soft,
@@ -22,7 +22,7 @@ pub enum WireFrom {
 }
 
 /// Where a wire ends.
-#[derive(Clone, Copy, PartialEq, Eq, Debug)]
+#[derive(Clone, Copy)]
 pub enum WirePin {
     /// A bit of the `mip` of the processor of this number.
     Cpu { hart: u8, pin: u8 },
@@ -30,7 +30,7 @@ pub enum WirePin {
     Source(u8),
 }
 
-#[derive(Clone, Copy, PartialEq, Eq, Debug)]
+#[derive(Clone, Copy)]
 pub struct Wire {
     pub from: WireFrom,
     pub pin: WirePin,

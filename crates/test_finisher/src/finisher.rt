@@ -5,7 +5,7 @@ ghost use Rattle.dev_core.specs.Finisher.{finish_of};
 use dev_core::{DevState, Device, Effect, Finish, Kind, Payload, Taken};
 
 /// A finisher. It holds nothing.
-#[derive(Clone, Copy, PartialEq, Eq, Debug)]
+#[derive(Clone, Copy)]
 pub struct Finisher;
 
 /// The address of its one register.

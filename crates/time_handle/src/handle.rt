@@ -8,7 +8,7 @@ use std::marker::Model;
 
 /// A grant of time to one board, and how many of its slots the board has used. At most the slots
 /// that the grant pays for are ever used.
-#[derive(Clone, Copy, PartialEq, Eq, Debug)]
+#[derive(Clone, Copy)]
 pub struct Handle {
     from: Micros,
     to: Micros,

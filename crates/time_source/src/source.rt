@@ -14,7 +14,7 @@ const MEMBERS: usize = 16;
 
 /// A source of time and its members, each with its speed and its part of the grant. The members
 /// are boards, numbered from 0 in order of joining.
-#[derive(Drop, Debug)]
+#[derive(Drop)]
 pub struct Source {
     places: [Handle; MEMBERS],
     count: usize,

@@ -21,7 +21,7 @@ use dev_core::{DevState, Device, Effect, Kind, Payload, Taken, UartState, is_set
 use std::marker::Model;
 
 /// A UART, which contracts see as its state.
-#[derive(Drop, Debug)]
+#[derive(Drop)]
 pub struct Uart {
     state: UartState,
 }

@@ -9,7 +9,7 @@ use std::alloc::Global;
 use std::marker::Model;
 
 /// A hub: its delay in microseconds, and its members in order of connection.
-#[derive(Drop, Debug)]
+#[derive(Drop)]
 pub struct Hub {
     delay: u64,
     members: Vec<Member>,

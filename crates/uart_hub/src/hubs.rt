@@ -14,7 +14,7 @@ use std::alloc::Global;
 use std::marker::Model;
 
 /// Why a member was not connected.
-#[derive(Clone, Copy, PartialEq, Eq, Debug)]
+#[derive(Clone, Copy)]
 pub enum HubFault {
     /// The member is in some hub already.
     Already,
@@ -35,7 +35,7 @@ impl From<NoMemory> for HubFault {
 
 /// Hubs, numbered from 0 in order of creation. Contracts see each as its delay in microseconds and
 /// its members in order of connection. No member is in two hubs, nor twice in one.
-#[derive(Drop, Debug)]
+#[derive(Drop)]
 pub struct UartHubs {
     alloc: Global,
     hubs: Vec<Hub>,

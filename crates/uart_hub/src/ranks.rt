@@ -7,7 +7,7 @@ use std::alloc::Global;
 use std::marker::Model;
 
 /// A number for each member, which contracts see as their list by the members' places. Past its end they are 0.
-#[derive(Drop, Debug)]
+#[derive(Drop)]
 pub struct Ranks {
     numbers: Vec<usize>,
 }

@@ -2,7 +2,7 @@
 use Rattle.std.specs.Prelude.{◌≡◌, ℕ, ◌%◌, ◌<◌, ◌≤◌, List, [], ◌∷◌, Option, All, length, map}
 use Rattle.std.specs.List.{range_with_len}
 use Rattle.rv_hart.specs.Core.{Core}
-use Rattle.board.specs.Valid.{IsReservation}
+use Rattle.board_space.specs.Valid.{IsReservation}
 use Rattle.board.specs.View.{View, State}
 use Rattle.board.specs.HartBus.{HartBus}
 

@@ -3,7 +3,7 @@ use Rattle.std.specs.Prelude.{ℕ, ◌<◌}
 use Rattle.std.specs.Vec.{vec_len, vec_capacity}
 use Rattle.std.specs.VecDeque.{deque_len, deque_capacity}
 use Rattle.board.specs.declared.outbox.Outbox.{Outbox}
-use Rattle.board.specs.Space.{Space}
+use Rattle.board_space.specs.Space.{Space}
 use Rattle.board.specs.HartBus.{HartBus}
 
 -- the bus of a board that has made this, with this space, in a slot at this microsecond

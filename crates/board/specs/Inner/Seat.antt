@@ -18,7 +18,7 @@ use Rattle.board.specs.declared.slot.Features.{Features}
 use Rattle.board.specs.Fetch.{shared_by}
 use Rattle.board.specs.Idle.{core_passed, turns_of}
 use Rattle.board.specs.HartView.{HartView, SlotState, slot_state}
-use Rattle.board.specs.Inner.Remembers.{is_wired}
+use Rattle.board_space.specs.Lines.{is_wired}
 use Rattle.board.specs.HartBus.{HartBus, answer, fetched, loaded, stored}
 
 -- what the processor of a number sees

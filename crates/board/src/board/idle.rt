@@ -1,8 +1,8 @@
 //! Idle slots, which are passed over.
 ghost use Rattle.std.specs.Prelude.{◌≡◌, ℕ, ◌+◌, ◌%◌, ◌/◌, ◌<◌, ◌≤◌, ◌^◌, true, length, All, IsTrue};
 ghost use Rattle.board.specs.Idle.{IsIdle, is_idle, passed};
-ghost use Rattle.board.specs.Inner.Remembers.{is_wired};
-ghost use Rattle.board.specs.Lines.{sampled, timer_up, mip_of};
+ghost use Rattle.board_space.specs.Lines.{is_wired};
+ghost use Rattle.board_space.specs.Lines.{sampled, timer_up, mip_of};
 ghost use Rattle.board.specs.Stretch.{stretch};
 ghost use Rattle.board.specs.View.{after, core_at};
 

@@ -2,12 +2,13 @@
 ghost use Rattle.std.specs.Prelude.{◌≡◌, ◌<◌, length, IfOk};
 ghost use Rattle.board.specs.BoardState.{board_state, brought_to};
 ghost use Rattle.board.specs.Changes.{with_memory_in};
-ghost use Rattle.board.specs.Space.{memory_at};
-ghost use Rattle.board.specs.Valid.{IsBoard, IsStateFor};
+ghost use Rattle.board_space.specs.Space.{memory_at};
+ghost use Rattle.board.specs.Valid.{IsBoard};
+ghost use Rattle.board_space.specs.Valid.{IsStateFor};
 
 use super::Board;
 use crate::harts::{bring_all_to, sound_harts_law, states_of};
-use crate::state::BoardState;
+use board_space::BoardState;
 use dev_core::Device;
 use lab_num::{NoMemory, Rows};
 use page_ram::PageRam;

@@ -6,7 +6,7 @@ ghost use Rattle.board.specs.Inner.Holds.{state_alone};
 ghost use Rattle.board.specs.Inner.Seat.{features_of, seat, IsSeat};
 ghost use Rattle.board.specs.Slot.{slot, number_after};
 ghost use Rattle.board.specs.Stretch.{IsTurn, stretch};
-ghost use Rattle.board.specs.Valid.{IsReservation};
+ghost use Rattle.board_space.specs.Valid.{IsReservation};
 ghost use Rattle.board.specs.View.{after};
 
 use super::{Board, SlotAt, Turn};

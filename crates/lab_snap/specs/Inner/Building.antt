@@ -2,7 +2,7 @@
 use Rattle.std.specs.Prelude.{◌≡◌, ℕ, suc, ◌<◌, ◌≤◌, ◌^◌, List, [], ◌∷◌, length, map, Option, Some, IsTrue}
 use Rattle.std.specs.List.{All}
 use Rattle.std.specs.Option.{option_map}
-use Rattle.board.specs.declared.state.BoardState.{BoardState}
+use Rattle.board_space.specs.declared.state.BoardState.{BoardState}
 use Rattle.board.specs.New.{new_board}
 use Rattle.board.specs.View.{View}
 use Rattle.dev_core.specs.Kind.{row_of}

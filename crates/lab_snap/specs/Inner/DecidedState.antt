@@ -23,7 +23,7 @@ use Rattle.rv_hart.specs.declared.state.HartState.{HartState}
 use Rattle.rv_hart.specs.HartState.{IsHartState}
 use Rattle.sys_bus.specs.declared.plan.BoardPlan.{BoardPlan}
 use Rattle.sys_bus.specs.declared.plan.PlicSize.{PlicSize}
-use Rattle.board.specs.declared.state.BoardState.{BoardState}
+use Rattle.board_space.specs.declared.state.BoardState.{BoardState}
 use Rattle.board.specs.Changes.{is_shown_kind}
 use Rattle.board.specs.Valid.{IsClintFor, IsPlicFor, IsReservation, IsStateFor}
 use Rattle.lab_snap.specs.Inner.Decided.{Decided, at_most, below, both, each, each_number, fails, five, four, holds}

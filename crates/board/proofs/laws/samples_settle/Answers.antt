@@ -1,6 +1,6 @@
 use Rattle.std.proofs.Common.{refl}
-use Rattle.board.specs.Lines.{sampled}
-use Rattle.board.proofs.LineLemmas.{sampled_twice}
+use Rattle.board_space.specs.Lines.{sampled}
+use Rattle.board_space.proofs.LineLemmas.{sampled_twice}
 use Rattle.board.proofs.laws.samples_settle.Goals as goal
 
 pub returns : goal.returns

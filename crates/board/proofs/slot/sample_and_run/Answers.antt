@@ -3,13 +3,13 @@ use Rattle.std.specs.Prelude.{Option, option_map}
 use Rattle.plic.specs.declared.state.PlicState.{PlicState}
 use Rattle.sys_bus.specs.declared.plan.BoardPlan.{BoardPlan}
 use Rattle.board.specs.HartView.{SlotState, slot_state}
-use Rattle.board.specs.BoardState.{controller_to}
+use Rattle.board_space.specs.BoardState.{controller_to}
 use Rattle.board.specs.Inner.Outbox.{bus_with}
 use Rattle.board.specs.Inner.Seat.{features_of}
-use Rattle.board.specs.Lines.{sampled}
-use Rattle.board.specs.Space.{Space}
+use Rattle.board_space.specs.Lines.{sampled}
+use Rattle.board_space.specs.Space.{Space}
 use Rattle.board.specs.HartBus.{HartBus}
-use Rattle.board.proofs.LineLemmas.{still_state, undone}
+use Rattle.board_space.proofs.LineLemmas.{still_state, undone}
 use Rattle.board.proofs.slot.sample_and_run.Goals as goal
 
 plan_sampled : (now old : Space) → now ≡ sampled old → now.plan ≡ old.plan

@@ -1,6 +1,6 @@
 -- The UARTs that were shown when a run began stay so, and lines are opened of them alone.
 use Rattle.std.proofs.Common.{refl}
-use Rattle.lab_state.proofs.HandedLemmas.{reached_now}
+use Rattle.lab_state.proofs.ReachedLemmas.{reached_now}
 use Rattle.lab_state.proofs.ToldLemmas.{runs-keep}
 use Rattle.lab_state.proofs.laws.runs_keep_lines_open.Goals as goal
 

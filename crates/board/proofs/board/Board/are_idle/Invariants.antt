@@ -1,7 +1,7 @@
 use Rattle.std.proofs.Common.{◌≡◌, ℕ, ◌<◌}
 use Rattle.std.specs.Prelude.{IsTrue}
 use Rattle.board.specs.Idle.{is_idle}
-use Rattle.board.specs.Lines.{sampled, timer_up, mip_of}
+use Rattle.board_space.specs.Lines.{sampled, timer_up, mip_of}
 use Rattle.board.specs.View.{core_at}
 use Rattle.board.proofs.board.Board.are_idle.Given as goal
 

@@ -2,9 +2,9 @@ use Rattle.std.proofs.Common.{◌∙◌, rules, drop, length, subst, sym}
 use Rattle.board.specs.declared.board.Board.TheInside.{Inside}
 use Rattle.board.specs.BoardState.{brought_to}
 use Rattle.board.specs.Inner.Holds.{Holds, state_of}
-use Rattle.board.specs.Valid.{IsStateFor}
+use Rattle.board_space.specs.Valid.{IsStateFor}
 use Rattle.board.specs.View.{State}
-use Rattle.board.proofs.ListLemmas.{whole}
+use Rattle.board_space.proofs.ListLemmas.{whole}
 use Rattle.board.proofs.StateLemmas.{holds_brought}
 use Rattle.board.proofs.board.Board.put_state.Goals as goal
 

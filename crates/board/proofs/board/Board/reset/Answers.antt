@@ -2,9 +2,9 @@ use Rattle.std.proofs.Common.{◌∙◌, ap, sym, subst, rules, drop, length, ma
 use Rattle.board.specs.declared.board.Board.TheInside.{Inside}
 use Rattle.board.specs.Inner.Holds.{Holds, state_of}
 use Rattle.board.specs.New.{reset_core}
-use Rattle.board.specs.Space.{Space}
+use Rattle.board_space.specs.Space.{Space}
 use Rattle.board.proofs.HoldLemmas.{holds_reset}
-use Rattle.board.proofs.ListLemmas.{whole}
+use Rattle.board_space.proofs.ListLemmas.{whole}
 use Rattle.board.proofs.board.Board.reset.Goals as goal
 
 pub invariant_of-self : goal.invariant_of-self

@@ -4,7 +4,7 @@ use Rattle.board.specs.declared.slot.Features.{Features}
 use Rattle.board.specs.Inner.Seat.{features_of}
 use Rattle.board.proofs.NumberLemmas.{plan-stretch, speed-stretch}
 use Rattle.board.proofs.StretchLemmas.{after_none, after_stretch, after_slots, micros_begins}
-use Rattle.board.specs.Inner.Remembers.{is_wired}
+use Rattle.board_space.specs.Lines.{is_wired}
 use Rattle.board.specs.View.{State}
 use Rattle.board.proofs.board.Board.slots.Goals as goal
 

@@ -2,8 +2,8 @@ use Rattle.std.proofs.Common.{◌∙◌, ap, sym, subst}
 use Rattle.page_ram.specs.Bytes.{zeros}
 use Rattle.board.specs.declared.board.Board.TheInside.{Inside}
 use Rattle.board.specs.Inner.Holds.{Holds, state_of}
-use Rattle.board.specs.Space.{Space}
-use Rattle.board.proofs.CopyLemmas.{plan-copied}
+use Rattle.board_space.specs.Space.{Space}
+use Rattle.board_space.proofs.CopyLemmas.{plan-copied}
 use Rattle.board.proofs.HoldLemmas.{holds_cleared}
 use Rattle.board.proofs.board.Board.zero.Goals as goal
 

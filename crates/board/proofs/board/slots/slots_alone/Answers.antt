@@ -9,7 +9,7 @@ use Rattle.board.proofs.WatchLemmas.{reserved_after}
 use Rattle.board.specs.HartView.{slot_state}
 use Rattle.board.specs.Inner.Seat.{behind, features_of}
 use Rattle.board.specs.Slot.{hart_slot}
-use Rattle.board.specs.Valid.{IsReservation}
+use Rattle.board_space.specs.Valid.{IsReservation}
 use Rattle.board.specs.View.{State}
 use Rattle.board.specs.HartBus.{HartBus}
 use Rattle.board.proofs.board.slots.slots_alone.Goals as goal

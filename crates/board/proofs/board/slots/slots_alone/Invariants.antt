@@ -1,6 +1,6 @@
 use Rattle.std.proofs.Common.{◌≡◌, All, length}
 use Rattle.rv_exec.specs.Laws.{IsSameHart}
-use Rattle.board.specs.Valid.{IsReservation}
+use Rattle.board_space.specs.Valid.{IsReservation}
 use Rattle.board.specs.View.{after}
 use Rattle.board.specs.Stretch.{stretch}
 use Rattle.board.specs.Inner.Holds.{state_alone}

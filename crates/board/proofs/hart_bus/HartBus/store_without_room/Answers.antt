@@ -1,8 +1,8 @@
 use Rattle.std.proofs.Common.{◌≡◌, ◌∙◌, ap, refl, rules}
-use Rattle.board.specs.Space.{Space, with_state}
+use Rattle.board_space.specs.Space.{Space, with_state}
 use Rattle.board.specs.HartBus.{HartBus, posted, entered_if, note_if, sent}
 use Rattle.board.specs.Inner.Outbox.{bus_with}
-use Rattle.board.proofs.FitLemmas.{put_back_same}
+use Rattle.board_space.proofs.FitLemmas.{put_back_same}
 use Rattle.board.proofs.hart_bus.HartBus.store_without_room.Goals as goal
 
 pub returns-then-is_err-clause-err : goal.returns-then-is_err-clause-err

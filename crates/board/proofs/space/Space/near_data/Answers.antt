@@ -1,7 +1,0 @@
-use Rattle.board.proofs.FitLemmas.{accesses_lie}
-use Rattle.board.proofs.space.Space.near_data.Goals as goal
-
-pub returns : goal.returns
-returns g c =
-    rw c.self.view_is at (accesses_lie _ _ c.args.at c.near_data.result c.self.invariant.1 c.self.invariant.0
-    c.aligned_numbers_lie_in_one_page.ensures c.near_data.ensures)

@@ -1,0 +1,9 @@
+pub mod CopyLemmas
+pub mod DeviceLemmas
+pub mod FitLemmas
+pub mod LineLemmas
+pub mod ListLemmas
+pub mod MemoryLemmas
+pub mod PartLemmas
+pub mod SourceLemmas
+pub mod StateLemmas

@@ -1,0 +1,11 @@
+pub mod Space
+pub mod Words
+pub mod Lines
+pub mod New
+pub mod Changes
+pub mod Fit
+pub mod Copies
+pub mod BoardState
+pub mod Valid
+pub mod Parts
+pub mod Inner

@@ -1,6 +1,0 @@
--- The listing of the posts is the same in any order.
-use Rattle.lab_state.proofs.RunLemmas.{boundaries-agree}
-use Rattle.lab_state.proofs.laws.boundaries_agree.Goals as goal
-
-pub returns : goal.returns
-returns c = boundaries-agree c.listing_laws.ensures.is_listing c.listing_laws.ensures.only
