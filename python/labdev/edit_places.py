@@ -48,7 +48,7 @@ def body_below(lines: List[str], first: int, indent: str) -> Optional[Tuple[int,
     """Returns the lines with the braces of the body of the function whose line is the first, or None for none."""
     for number in range(first, len(lines)):
         line = lines[number]
-        is_end_of_head = number == first or line.startswith(f"{indent})")
+        is_end_of_head = number == first or line.startswith((f"{indent})", f"{indent}>"))
         if line == f"{indent}{{" or is_end_of_head and line.endswith("{"):
             end = next((it for it in range(number + 1, len(lines)) if lines[it] == f"{indent}}}"), None)
             return None if end is None else (number, end)

@@ -5,8 +5,11 @@
     tools/wrong --all      those of every crate: some three hours
     tools/wrong --check    tries nothing, and says which crates have changed since; .ci/run asks this
 
-`rt must-fail NAME ..` tries them, one crate after another, over a copy of the tree in which they are in must-fail/.
-The copy takes along the libraries that this checkout has built; `rt` builds those that are missing or out of date.
+It works on a copy of the tree, with the libraries that this checkout has built; `rt` builds those that are missing or
+out of date. Edits of the bodies of different functions lie on the copy together, and `rt check --only F --only G ..`
+tries them. `refused with others` is said of an edit whose function has a goal of its own that is not proved, and that
+is proved by the same command without the edits. Every other edit is tried alone by `rt must-fail NAME`, which decides:
+one of a contract, a method of a trait, a type or a constant, and one of which the check of its function says nothing.
 Where all edits of a crate were refused, crates/NAME/wrong/tried gets the sum of the crate's own sources and the sum of
 each edit. Commit it with the change. It ends with 0, with 1 where an edit was not refused or a crate has changed since
 its edits were tried, and with 2 where it is called otherwise.
