@@ -122,11 +122,12 @@ def check_of(folder: pathlib.Path, batch: Sequence[Placed]) -> Tuple[int, str]:
 
 def proved_in(folder: pathlib.Path, batch: Sequence[Placed]) -> List[Placed]:
     """Returns the edits whose functions are proved as they stand, without an edit."""
-    status, said = check_of(folder, batch)
-    if status not in (0, 1) or not ENDED.search(said):
-        return []
-    found = [symbol for symbol, it in functions_in(said.split("\n")) if it.words == "proved"]
-    return [one for one in batch if sum(is_same(symbol, one.function.name) for symbol in found) == 1]
+    status, said = check_of(folder, batch) if batch else (0, "")
+    if status in (0, 1) and ENDED.search(said):
+        found = [symbol for symbol, it in functions_in(said.split("\n")) if it.words == "proved"]
+        return [one for one in batch if sum(is_same(symbol, one.function.name) for symbol in found) == 1]
+    half = len(batch) // 2
+    return [*proved_in(folder, batch[:half]), *proved_in(folder, batch[half:])] if half else []
 
 
 @contextlib.contextmanager
@@ -162,7 +163,7 @@ def refused_together(folder: pathlib.Path, edits: Sequence[Placed]) -> Dict[str,
     """Tries these edits of a crate's folder in batches, and returns those that were refused, each with the first line
     of why. The functions have to be proved first without the edits."""
     refused: Dict[str, str] = {}
-    waiting = batches_of(proved_in(folder, edits)) if edits else []
+    waiting = batches_of(proved_in(folder, edits))
     while waiting:
         batch = waiting.pop(0)
         with laid_on(folder, batch):

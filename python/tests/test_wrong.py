@@ -272,10 +272,13 @@ class Batches(Repository):
         self.says(1, [f"{STALE} high low"], "--check")
 
     def test_an_edit_of_a_function_that_is_not_proved_without_it_is_tried_alone(self) -> None:
-        self.write("crates/low/src/lib.rt", SOURCE.replace("    1", "    1 // through"))
+        before = {"through": [CHECKED, SECOND, ALONE], "limit": [CHECKED, FIRST, SECOND, SECOND, ALONE]}
         self.edit_both("wrong")
-        self.wants(0, REFUSED, "tools/wrong", "low")
-        self.assertEqual(self.called(), [CHECKED, SECOND, ALONE])
+        for said, calls in before.items():
+            with self.subTest(said=said):
+                self.write("crates/low/src/lib.rt", SOURCE.replace("    1", f"    1 // {said}"))
+                self.wants(0, REFUSED, "tools/wrong", "low")
+                self.assertEqual(self.called(), calls)
 
     def test_edits_of_anything_but_one_body_are_tried_alone(self) -> None:
         changes = {
