@@ -14,6 +14,7 @@ Where all edits of a crate were refused, crates/NAME/wrong/tried gets the sum of
 each edit. Commit it with the change. It ends with 0, with 1 where an edit was not refused or a crate has changed since
 its edits were tried, and with 2 where it is called otherwise.
 """
+import os
 import pathlib
 import re
 import shutil
@@ -22,6 +23,7 @@ import tempfile
 from typing import List, Set
 
 from labdev.batches import refused_together
+from labdev.crates import below, uses_of
 from labdev.edit_places import place_of
 from labdev.wrong_bodies import WrongBodies, crates_with_wrong_bodies
 from labtools.common.program import TOP, end_unless, end_wrong
@@ -45,11 +47,25 @@ def asked_for(words: List[str]) -> List[WrongBodies]:
     return [every[it] for it in words]
 
 
-def copy_tree(to: pathlib.Path) -> None:
-    """Copies what rt reads and the libraries that are built here, without any edit in a folder must-fail/."""
-    shutil.copytree(TOP / "crates", to / "crates", ignore=shutil.ignore_patterns("incremental", "must-fail"))
+def link_or_copy(one: str, other: str) -> None:
+    """Gives a file of a library a second name, as the kit does, which never writes into such a file."""
+    try:
+        os.link(one, other)
+    except OSError:
+        shutil.copy2(one, other)
+
+
+def copy_tree(crates: List[WrongBodies], to: pathlib.Path) -> None:
+    """Copies the sources, without any edit in a folder must-fail/, and takes along the libraries below these crates
+    that are built here."""
     for name in "crates.txt", "HANDLES":
         shutil.copy(TOP / name, to)
+    shutil.copytree(TOP / "crates", to / "crates", ignore=shutil.ignore_patterns("out", "must-fail"))
+    uses = uses_of((TOP / "crates.txt").read_text(encoding="utf-8"))
+    for name in set().union(*(below(uses, it.name) for it in crates)):
+        library = pathlib.Path("crates", name, "out", "rlib")
+        if (TOP / library).is_dir():
+            shutil.copytree(TOP / library, to / library, copy_function=link_or_copy)
 
 
 def try_together(crate: WrongBodies) -> Set[str]:
@@ -98,7 +114,7 @@ def try_edits(crates: List[WrongBodies]) -> int:
         end_wrong("the Rattle kit is needed, whose command is rt")
     with tempfile.TemporaryDirectory(prefix="lab-wrong-") as room:
         folder = pathlib.Path(room)
-        copy_tree(folder)
+        copy_tree(crates, folder)
         copies = [WrongBodies(folder / "crates" / it.name) for it in crates]
         # (of the copy, which nobody changes meanwhile)
         sums = {it.name: it.sums() for it in copies}
