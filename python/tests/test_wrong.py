@@ -14,7 +14,7 @@ import os, pathlib, re, signal, sys
 
 words = sys.argv[1:]
 with open(os.environ["CALLS"], "a") as calls:
-    print(*words, file=calls)
+    print(*words, *sorted(pathlib.Path(".").glob("crates/*/out/*/*")), file=calls)
 if words[0] == "must-fail":
     for edit in sorted(pathlib.Path(".").glob("crates/*/must-fail/*.edit")):
         is_harmless = "harmless" in edit.read_text()
@@ -157,6 +157,12 @@ class Wrong(Repository):
         self.says(0, both, "--all")
         self.says(0, ["2 wrong bodies were refused over the present sources of their crates"], "--check")
         self.assertEqual(self.called(), ["must-fail high low"])
+
+    def test_the_built_libraries_below_are_taken_along(self) -> None:
+        for name in "low/out/rlib/stamp", "low/out/incremental/kept", "lab_cli/out/rlib/stamp":
+            self.write(f"crates/{name}", "")
+        self.wants(0, "", "tools/wrong", "high")
+        self.assertEqual(self.called(), ["must-fail high crates/low/out/rlib/stamp"])
 
     def test_a_change_of_a_crate_or_of_its_edits_is_seen(self) -> None:
         changes = {
