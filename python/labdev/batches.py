@@ -19,7 +19,7 @@ ENDED = re.compile(r"(?m)^only=\d+ proved=\d+$")
 # A line by which the kept work of a library could not be used.
 STALE = re.compile(r"module .Rattle-\w+-.*Run the lower steps again")
 ERROR = re.compile(r"(?:\./)?(\S+?):\d+:\d+: error")
-NOTE = re.compile(r"note: src/\S+:\d+:\d+: ")
+NOTE = re.compile(r"note: src/\S+:\d+:\d+: it is not proved ")
 VERDICT = re.compile(r"[a-z]+ (\S+): ((?:not |no |could not |assumed|proved|depends).*)")
 # A function that is not proved because of another.
 THROUGH = re.compile(r"\b(?:it calls|it passes|a call of|depends on)\b")
@@ -78,8 +78,8 @@ def reason_for(told: Said, errors: Sequence[str]) -> Optional[str]:
     a function calls by contracts alone, so one that is not proved is its own, whatever else is not."""
     if told.words.startswith("no proof: ") and "`search` did not prove `" in told.words and told.notes:
         return told.notes[0]
-    if told.words == "not proved" and errors and not any(map(NAMES.search, errors)):
-        return errors[0]
+    if told.words == "not proved":
+        return next((it for it in [*errors, *told.notes] if not NAMES.search(it)), None)
     return None
 
 

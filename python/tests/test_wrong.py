@@ -46,6 +46,8 @@ for name in asked:
         words = "not proved"
     elif "renamed" in body:
         print(f"./proofs/{last}/Answers.antt:6:5: error: `gone` is not in scope")
+        if "goal" in body:
+            print("note: src/lib.rt:1:5: it is not proved that it ensures this (`returns`)")
         words = "not proved"
     elif "lemma" in body:
         print("./proofs/Lemmas.antt:6:5: error: `rule` was not admitted")
@@ -243,10 +245,12 @@ class Batches(Repository):
                 self.says(1, [f"{STALE} high"], "--check")
 
     def test_an_error_in_the_proof_of_its_function_refuses_an_edit(self) -> None:
-        self.edit_both("answered")
         error = "./proofs/one/Answers.antt:6:5: error: `returns`: the two types differ"
-        self.wants(0, f"low/first.edit: refused with others: {error}\n", "tools/wrong", "low")
-        self.assertEqual(self.called(), [CHECKED, CHECKED])
+        for said, why in ("answered", error), ("renamed goal", NOTE):
+            with self.subTest(said=said):
+                self.edit_both(said)
+                self.wants(0, f"low/first.edit: refused with others: {why}\n", "tools/wrong", "low")
+                self.assertEqual(self.called(), [CHECKED, CHECKED])
 
     def test_edits_of_one_function_are_tried_one_after_another(self) -> None:
         self.edit("first", "    1", "    2 // wrong")
