@@ -23,8 +23,7 @@ import time
 from typing import IO, Dict, Iterable, Iterator, List, Optional
 
 from labdev import trials
-from labdev.crates import PROGRAM as CRATE_OF_PROGRAM
-from labdev.crates import below, uses_of
+from labdev.crates import PROGRAM as CRATE_OF_PROGRAM, below, uses_of
 from labdev.released import sum_of_sources
 from labtools.common.program import TOP, end_unless, number_of
 

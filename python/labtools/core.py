@@ -22,8 +22,7 @@ import shlex
 import shutil
 from typing import Any, Dict, Iterator, List
 
-from labtools.boards import core_files
-from labtools.boards import looks
+from labtools.boards import core_files, looks
 from labtools.boards.machine import machine_of
 from labtools.boards.run_until import Held, time_text
 from labtools.boards.snapshot import NoSnapshot

@@ -24,9 +24,7 @@ import subprocess
 import sys
 from typing import BinaryIO, List
 
-from labtools.common import plain_files
-from labtools.common import program
-from labtools.common import rooms
+from labtools.common import plain_files, program, rooms
 from labtools.logs import folded
 from labtools.scripts import finishers
 from labtools.suites import kept_logs

@@ -14,12 +14,7 @@ from typing import Any, Callable, Dict, Generator, Iterable, List, Optional, Seq
 import pytest
 
 from labtools.common.escapes import shown, shown_lines
-from labtools.suites import lab_runs
-from labtools.suites import laboratories
-from labtools.suites import sessions
-from labtools.suites import shards
-from labtools.suites import suite_reports
-from labtools.suites import trials
+from labtools.suites import lab_runs, laboratories, sessions, shards, suite_reports, trials
 from labtools.suites.laboratories import Lab
 from labtools.suites.suite_reports import Outcome
 from labtools.suites.suite_tests import Undone

@@ -10,9 +10,7 @@ import subprocess
 from typing import List, Tuple
 
 from labtools.common.program import TOP
-from labtools.scripts import cures
-from labtools.scripts import parts
-from labtools.scripts import reads
+from labtools.scripts import cures, parts, reads
 from tests.scripts import CPU, RAM, UART, Content, Explained, Files, elf, lab
 
 

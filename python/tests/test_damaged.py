@@ -22,8 +22,7 @@ from typing import Any, Callable, Dict, Iterator, List
 from unittest import mock
 
 from labdev.pythons import with_pyelftools
-from labtools import snapshot as snapshot_tool
-from labtools import where as where_tool
+from labtools import snapshot as snapshot_tool, where as where_tool
 from labtools.boards import snapshot
 from labtools.common.program import TOP, path_of_program
 from labtools.elf.elf import is_readable

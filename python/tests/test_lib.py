@@ -8,13 +8,9 @@ import unittest
 from typing import Any, Dict, List, Optional, Tuple
 
 from labdev import cases
-from labtools.boards import machine
-from labtools.boards import snapshot
-from labtools.boards import stacks
-from labtools.boards import traps
+from labtools.boards import machine, snapshot, stacks, traps
 from labtools.common.program import TOP
-from labtools.elf import elf
-from labtools.elf import unwind
+from labtools.elf import elf, unwind
 
 
 HANDLER = 0x80000100

@@ -20,8 +20,7 @@ import unittest.mock
 import zipfile
 from typing import Callable, Dict, List, NamedTuple, Optional, Tuple
 
-from labdev import package
-from labdev import wheel
+from labdev import package, wheel
 from labtools.common.manual import manual_page, page_of_script
 from labtools.common.program import TOP, names_of_tools, path_of_program
 

@@ -6,12 +6,10 @@ import re
 import subprocess
 from typing import Any, Dict, List, Optional, Tuple
 
-from labtools.boards import kept_labs
-from labtools.boards import snapshot
+from labtools.boards import kept_labs, snapshot
 from labtools.common import rooms
 from labtools.common.program import path_of_program
-from labtools.scripts import reads
-from labtools.scripts import resc
+from labtools.scripts import reads, resc
 from labtools.scripts.reads import Command
 
 

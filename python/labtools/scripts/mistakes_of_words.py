@@ -8,8 +8,7 @@ from typing import Callable, Dict, Iterable, List, Optional, Sequence, Tuple
 
 from labtools.common.manual import rows_after
 from labtools.common.program import TOP
-from labtools.scripts import reads
-from labtools.scripts import resc
+from labtools.scripts import reads, resc
 from labtools.scripts.cures import fits
 from labtools.scripts.reads import Scene
 

@@ -21,8 +21,7 @@ from dataclasses import dataclass, field, replace
 from typing import Any, Callable, Dict, List, Optional, Sequence, Tuple, Union
 
 from labtools.boards import snapshot
-from labtools.scripts import repl
-from labtools.scripts import resc
+from labtools.scripts import repl, resc
 from labtools.scripts.resc import Line, Refused
 
 

@@ -15,9 +15,7 @@ from typing import BinaryIO, Callable, Dict, Iterator, List, Optional
 
 from labtools.common import plain_files
 from labtools.scripts import reads
-from labtools.suites import kept_logs
-from labtools.suites import lab_runs
-from labtools.suites import suite_tests
+from labtools.suites import kept_logs, lab_runs, suite_tests
 from labtools.suites.suite_tests import Undone, Wishes, unread
 
 

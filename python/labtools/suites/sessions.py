@@ -11,15 +11,9 @@ import sys
 import tempfile
 from typing import Callable, List, NoReturn, Optional, Sequence, Union
 
-from labtools.common import escapes
-from labtools.common import plain_files
-from labtools.common import rooms
+from labtools.common import escapes, plain_files, rooms
 from labtools.common.program import as_called, drop_output, name_of_script
-from labtools.suites import kept_logs
-from labtools.suites import lab_runs
-from labtools.suites import shards
-from labtools.suites import suite_reports
-from labtools.suites import trials
+from labtools.suites import kept_logs, lab_runs, shards, suite_reports, trials
 from labtools.suites.suite_reports import Outcome
 from labtools.suites.suite_tests import Undone
 

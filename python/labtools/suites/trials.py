@@ -10,10 +10,7 @@ from typing import BinaryIO, Callable, Dict, Iterator, List, Sequence
 from labtools.common import plain_files
 from labtools.common.program import path_of_program
 from labtools.scripts import finishers
-from labtools.suites import kept_logs
-from labtools.suites import lab_runs
-from labtools.suites import preparations
-from labtools.suites import suite_tests
+from labtools.suites import kept_logs, lab_runs, preparations, suite_tests
 from labtools.suites.suite_reports import Outcome
 from labtools.suites.suite_tests import Finding, Undone
 
