@@ -240,17 +240,17 @@ class Said(Explained):
             self.assertEqual(self.explained(0, "check", "s.resc"), [])
 
     def test_where_a_finisher_may_have_ended_a_run_no_line_is_told(self) -> None:
-        """The first run ends at once, and it is the third that is too long."""
+        """The first run ends in its first round, and it is the third that is too long. Rounds are long, and so few."""
         program = ("0x001002B7", "0x00005337", "0x55530313", "0x0062A023", "0x0000006F")
         words = "".join(f"sysbus WriteDoubleWord {0x80000000 + 4 * n} {word}\n" for n, word in enumerate(program))
         runs = "cpu PC 0x80000000\n" + "emulation RunFor 6000\ncpu IsHalted true\n" * 2 + "emulation RunFor 6000\n"
-        made = "mach create\nmachine LoadPlatformDescription @finisher.repl\n"
+        made = "emulation SetGlobalQuantum 1\nmach create\nmachine LoadPlatformDescription @finisher.repl\n"
         self.put({"finisher.repl": BOARD + FINISHER, "s.resc": made + words + runs})
         said = self.explained(3, "run", "s.resc")
-        self.assertEqual(self.printed.splitlines()[-1], "error: s.resc:13: S14 lab time")
+        self.assertEqual(self.printed.splitlines()[-1], "error: s.resc:14: S14 lab time")
         self.assertEqual([line[:26] for line in said], ["lab: docs/SCRIPTS.md: the "])
         self.put({"s.resc": made + words + runs.replace("6000", "10") + "foo\n"})
-        self.assertEqual(self.explained(3, "run", "s.resc")[0], "lab:   s.resc:14: foo")
+        self.assertEqual(self.explained(3, "run", "s.resc")[0], "lab:   s.resc:15: foo")
 
     def test_a_snapshot_that_is_too_large_is_told_where_it_is_saved(self) -> None:
         """A check writes none, and takes the line. The memory is full, so that the snapshot has all of it."""
