@@ -227,9 +227,7 @@ class Following(Room):
         return reads.follow("s.resc", self.room)
 
     def told(self, script: str, **files: str) -> Optional[Tuple[str, str]]:
-        """The place and the cause of a refusal."""
-        refusal = self.follow(script, **files).refusal
-        return (refusal.place, refusal.cause) if refusal else None
+        return told_by(self.follow(script, **files))
 
 
 class Followed(Following):
@@ -342,8 +340,7 @@ class Followed(Following):
     def test_macros_that_would_never_end(self) -> None:
         """Eight macros of ten lines, each of which runs the next: lab takes 100,000 commands of 10^8."""
         macros = [f'macro m{n}\n"""\n' + f"runMacro $m{n + 1}\n" * 10 + '"""\n' for n in range(1, 8)]
-        script = "".join(macros) + 'macro m8\n"""\n' + "pause\n" * 10 + '"""\nrunMacro $m1\n'
-        self.assertEqual(self.told(script), ("s.resc:90", "S12 commands"))
+        self.write("s.resc", "".join(macros) + 'macro m8\n"""\n' + "pause\n" * 10 + '"""\nrunMacro $m1\n')
         self.assertEqual(difference("s.resc", self.room), "")
         with self.assertRaisesRegex(run_until.NoRun, "lab refused .*/s.resc:90: S12 commands"):
             run_until.steps_of(str(self.room / "s.resc"))
@@ -408,18 +405,29 @@ def ended(script: str, folder: pathlib.Path, word: str, is_traced: bool) -> Ende
     return Ended(ran.returncode, (found[1], found[2]) if found else None, names if is_traced else None)
 
 
+def told_by(reading: reads.Reading) -> Optional[Tuple[str, str]]:
+    """The place and the cause of a refusal."""
+    return (reading.refusal.place, reading.refusal.cause) if reading.refusal else None
+
+
+def compared(script: str, folder: pathlib.Path, word: str, is_traced: bool) -> Tuple[Ended, reads.Reading]:
+    """How the program ends, and the reading, which watches the line that the program refuses."""
+    program = ended(script, folder, word, is_traced)
+    return program, reads.follow(script, folder, watched=program.refusal[0] if program.refusal else "")
+
+
 def difference(script: str, folder: pathlib.Path, is_traced: bool = False) -> str:
     """How the reading of a script differs from what the program does, or nothing. What depends on the lab time is seen
     by a run alone."""
-    reading = reads.follow(script, folder)
-    told = (reading.refusal.place, reading.refusal.cause) if reading.refusal else None
-    by_time = told is not None and told[1] == "S21 occupied"
-    program = ended(script, folder, "run" if by_time else "check", is_traced)
+    program, reading = compared(script, folder, "check", is_traced)
+    if reading.refusal and reading.refusal.cause == "S21 occupied":
+        program, reading = compared(script, folder, "run", is_traced)
+    told = told_by(reading)
     paths = [file.path for file in reading.files]
     there = [file.is_there for file in reading.files]
     if program.refusal and LATER.match(program.refusal[1]):
         is_other = told is not None and told[0] == program.refusal[0] and told != program.refusal
-        is_same = is_reached(*program.refusal, script, folder) and not is_other
+        is_same = is_reached(*program.refusal, reading) and not is_other
         paths = paths if program.opened is None else paths[: len(program.opened)]
     elif program.status in (4, 6):
         is_same = not all(there)
@@ -430,9 +438,8 @@ def difference(script: str, folder: pathlib.Path, is_traced: bool = False) -> st
     return "" if is_same else f"{program}, but {told} after {paths}"
 
 
-def is_reached(place: str, cause: str, script: str, folder: pathlib.Path) -> bool:
+def is_reached(place: str, cause: str, reading: reads.Reading) -> bool:
     """Whether a reading comes to a line that the program refuses by a cause that is not looked for."""
-    reading = reads.follow(script, folder, watched=place)
     is_read = place.rpartition(":")[0] in [file.path for file in reading.files]
     return is_read if cause.startswith("P") else bool(reading.scenes)
 
@@ -444,7 +451,7 @@ def differences(find: Callable[[pathlib.Path, int], Iterable[str]], count: int) 
         with tempfile.TemporaryDirectory(prefix="lab-reads-") as name:
             return [f"{number}: {told}" for told in find(pathlib.Path(name), number) if told]
 
-    with concurrent.futures.ThreadPoolExecutor(len(os.sched_getaffinity(0))) as workers:
+    with concurrent.futures.ThreadPoolExecutor(trials.lanes()) as workers:
         return [told for trial in workers.map(found, range(count)) for told in trial]
 
 
