@@ -33,7 +33,7 @@ from typing import Dict, List
 from labdev import wheel
 from labdev.completions import completion as completion_of_scripts
 from labdev.packed import DATE, Entry, Tree, file_of, files_below, link, put
-from labdev.released import Sums, fault_of, sum_of, sums_kept_with
+from labdev.released import Sums, fault_of, sum_of, sum_of_sources, sums_kept_with
 from labtools.common.manual import manual_page, page_of_script
 from labtools.common.program import TOP, end_wrong, named_as_installed, names_of_tools, parser_of, tell
 
@@ -49,9 +49,9 @@ class Refused(Exception):
 
 def released_program() -> pathlib.Path:
     """Returns the program that was built from the present sources. bin/lab has to have its sum."""
-    said = subprocess.run([TOP / "tools/sources"], check=True, stdout=subprocess.PIPE, text=True)
+    sources = sum_of_sources()
     for program in PROGRAMS:
-        if program.is_file() and sums_kept_with(program).sources == said.stdout.strip():
+        if program.is_file() and sums_kept_with(program).sources == sources:
             fault = fault_of(program) if program == PROGRAMS[0] else None
             if fault:
                 raise Refused(fault)

@@ -167,9 +167,11 @@ def is_so(document: str, text: str, program: str) -> bool:
     """Tries all blocks of a document, and says which are wrong, and what was passed over."""
     is_well = True
     lacking: Dict[Optional[str], int] = {}
+    marks = list(marks_of(text))
     with tempfile.TemporaryDirectory(prefix="lab-recipes-") as room:
-        furnish(room, program)
-        for line, kind, words, rest in marks_of(text):
+        if marks:
+            furnish(room, program)
+        for line, kind, words, rest in marks:
             try:
                 lacks = try_block(kind, words, block_after(rest), room)
                 lacking[lacks] = lacking.get(lacks, 0) + 1

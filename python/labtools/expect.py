@@ -26,7 +26,7 @@ from typing import BinaryIO, List
 
 from labtools.common import plain_files, program, rooms
 from labtools.logs import folded
-from labtools.scripts import finishers
+from labtools.scripts import reads
 from labtools.suites import kept_logs
 
 
@@ -87,7 +87,7 @@ def warn(script: str, log: str, printed: BinaryIO) -> None:
     if failures:
         tell(f"{log} says that a test has failed, so later runs are expected to fail it too:")
         program.tell("\n".join(failures))
-    if not kept_logs.has_verdict(printed) and finishers.has_finisher(script, pathlib.Path()):
+    if not kept_logs.has_verdict(printed) and reads.has_finisher(script, pathlib.Path()):
         tell(f"{log} has no verdict (`pause .. pass`), though a board has a finisher: did the test finish?")
 
 

@@ -23,7 +23,7 @@ from typing import Callable, Dict, Iterable, Iterator, List, Optional, Tuple
 from labdev import cases, mangle, trials
 from labtools.boards import run_until
 from labtools.common.program import TOP
-from labtools.scripts import finishers, reads
+from labtools.scripts import reads
 from tests.commands import Room
 from tests.scripts import CPU, RAM, Files, lab
 
@@ -318,8 +318,8 @@ class Followed(Following):
             with self.subTest(platform=platform):
                 self.put({"s.resc": EQUIPPED.replace("p.repl", platform) + "Save @kept\n", "on.resc": "Load @kept\n"})
                 subprocess.run([lab(), "run", "s.resc"], cwd=self.room, check=True)
-                self.assertEqual(finishers.has_finisher("s.resc", self.room), has_one)
-                self.assertEqual(finishers.has_finisher("on.resc", self.room), has_one)
+                self.assertEqual(reads.has_finisher("s.resc", self.room), has_one)
+                self.assertEqual(reads.has_finisher("on.resc", self.room), has_one)
 
     def test_commands_have_their_variables_replaced(self) -> None:
         """Macros and included files stand in their places, and nothing after `quit`."""

@@ -623,6 +623,11 @@ def follow(
     return walk.reading
 
 
+def has_finisher(script: Union[str, pathlib.Path], folder: pathlib.Path) -> bool:
+    """Whether a board of a script has a finisher, where lab is started in this folder."""
+    return any(board.has_finisher for board in follow(script, folder).boards)
+
+
 def files_read(script: Union[str, pathlib.Path], folder: pathlib.Path) -> List[FileRead]:
     """The files that a script reads, in order, itself first, where lab is started in this folder. The files of `Save`
     are not among them, and those of `Load` are."""

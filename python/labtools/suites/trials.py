@@ -8,23 +8,13 @@ import pathlib
 from typing import BinaryIO, Callable, Dict, Iterator, List, Sequence
 
 from labtools.common import plain_files
-from labtools.common.program import path_of_program
-from labtools.scripts import finishers
+from labtools.scripts import reads
 from labtools.suites import kept_logs, lab_runs, preparations, suite_tests
 from labtools.suites.suite_reports import Outcome
 from labtools.suites.suite_tests import Finding, Undone
 
 # How many lines of a log are warned of at most.
 WARNED = 40
-
-
-def program() -> str:
-    """The program that is run. ./lab, which builds it where it has to, says why there is none."""
-    try:
-        return path_of_program()
-    except SystemExit as ended:
-        cause = "LAB names none" if os.environ.get("LAB") else f"./lab ended with {ended.code}"
-        raise Undone(f"there is no program to run: {cause}") from ended
 
 
 def log_of(script: str) -> pathlib.Path:
@@ -52,7 +42,7 @@ def warnings_of(test: str, folder: pathlib.Path, log: BinaryIO) -> Iterator[str]
     """What is to be said of the log that is kept of a test."""
     for line in itertools.islice(kept_logs.failures_in(log), WARNED):
         yield f"says that a test has failed, so later runs are expected to fail it too: {line}"
-    if not kept_logs.has_verdict(log) and finishers.has_finisher(test, folder):
+    if not kept_logs.has_verdict(log) and reads.has_finisher(test, folder):
         yield "has no verdict (`pause .. pass`), though a board has a finisher: did the test finish?"
 
 
