@@ -4,13 +4,11 @@ the tests that need them are passed over.
 """
 import json
 import os
-import pathlib
 import resource
 import shutil
 import signal
 import subprocess
 import sys
-import tempfile
 import unittest
 from typing import Any, Dict, List, Tuple
 
@@ -18,9 +16,8 @@ from labdev.pythons import with_pyelftools
 from labtools.boards import machine
 from labtools.common.program import TOP
 from labtools.elf import unwind
-from tests import tools
+from tests.commands import Room
 from tests.suite_projects import HEED, is_ended, wait_for
-
 
 DATA = TOP / "python/tests/data/where"
 LAB = os.environ.get("LAB", str(TOP / "lab"))
@@ -47,18 +44,16 @@ start
 """
 
 
-class InRoom(unittest.TestCase):
+class InRoom(Room):
     """A test with a folder of its own, in which a copy of data/where stands."""
 
     def setUp(self) -> None:
-        self.room = pathlib.Path(tempfile.mkdtemp(prefix="lab-tests-where-"))
-        self.addCleanup(shutil.rmtree, self.room)
-        for path in DATA.iterdir():
-            shutil.copy(path, self.room)
+        super().setUp()
+        shutil.copytree(DATA, self.room, dirs_exist_ok=True)
 
     def run_tool(self, name: str, *words: str, **settings: str) -> Tuple[int, str, str]:
         """Returns how a script of tools/ ends, and what it prints."""
-        ran = tools.call(TOP / "tools" / name, *words, cwd=self.room, env={**os.environ, **settings}, python=PYTHON)
+        ran = self.ran(TOP / "tools" / name, *words, env={**self.environment, **settings}, python=PYTHON)
         return ran.returncode, ran.stdout, ran.stderr
 
     def where(self, *words: str, **settings: str) -> str:
@@ -74,14 +69,11 @@ class InRoom(unittest.TestCase):
     def expected(self, name: str) -> str:
         return (DATA / name).read_text()
 
-    def write(self, name: str, text: str) -> None:
-        (self.room / name).write_text(text)
-
     def keep(self, script: str) -> None:
         """Makes the snapshot `kept` of a script without its last lines."""
         lines = self.expected(script).split("quit\n")[0]
         self.write("keep.resc", f"{lines}Save @kept\n")
-        subprocess.run([LAB, "run", "keep.resc"], cwd=self.room, stdout=subprocess.DEVNULL, check=True)
+        self.assertEqual(self.ran(LAB, "run", "keep.resc").returncode, 0)
 
 
 @unittest.skipUnless(with_pyelftools(), "the reports, without pyelftools")
@@ -424,13 +416,10 @@ class Faults(InRoom):
     def test_without_LAB_it_runs_the_program_that_lab_names(self) -> None:
         for folder in "tools", "python":
             shutil.copytree(TOP / folder, self.room / folder, symlinks=True, ignore=shutil.ignore_patterns("tests"))
-        lab = self.room / "lab"
-        lab.write_text(f'#!/bin/sh\n[ "$*" = --program ] && echo "{os.path.abspath(LAB)}"\n')
-        lab.chmod(0o755)
+        self.write("lab", f'#!/bin/sh\n[ "$*" = --program ] && echo "{os.path.abspath(LAB)}"\n', 0o755)
         self.write("none.resc", "")
-        command = [sys.executable, "tools/where", "none.resc"]
-        env = {name: value for name, value in os.environ.items() if name != "LAB"}
-        ran = subprocess.run(command, cwd=self.room, env=env, capture_output=True, text=True)
+        self.environment.pop("LAB", None)
+        ran = self.ran(sys.executable, "tools/where", "none.resc")
         self.assertEqual((ran.stdout, ran.stderr), ("at 0.000000\n", ""))
 
 
@@ -501,8 +490,7 @@ class Snapshots(InRoom):
 
     def test_a_reader_that_ends_is_no_fault(self) -> None:
         self.keep("ask.resc")
-        command = f'"{sys.executable}" "{TOP}/tools/snapshot" kept | head -n 1'
-        ran = subprocess.run(command, cwd=self.room, shell=True, capture_output=True, text=True)
+        ran = self.ran("sh", "-c", f'"{sys.executable}" "{TOP}/tools/snapshot" kept | head -n 1')
         self.assertEqual((ran.stdout, ran.stderr), ("       8 time 1000\n", ""))
 
 
@@ -628,22 +616,19 @@ exec sleep 600
 """
 
 
-class Ended(unittest.TestCase):
+class Ended(Room):
     """What is left of tools that run lab, which is nothing."""
 
     def setUp(self) -> None:
-        folder = tempfile.TemporaryDirectory(prefix="lab-tests-where-")
-        self.addCleanup(folder.cleanup)
-        self.folder = pathlib.Path(folder.name)
-        self.room = self.folder / "room"
-        self.room.mkdir()
-        for name, text in {"s.resc": "", "process": "", "lab": WAITING}.items():
-            (self.folder / name).write_text(text, encoding="utf-8")
-        (self.folder / "lab").chmod(0o755)
+        super().setUp()
+        self.temporary = self.room / "room"
+        self.temporary.mkdir()
+        self.put({"s.resc": "", "process": ""})
+        self.write("lab", WAITING, 0o755)
 
     def process(self) -> int:
         """The process of the program that is in place of lab, or 0 where none has begun."""
-        return int((self.folder / "process").read_text(encoding="utf-8") or 0)
+        return int(self.read("process") or 0)
 
     def test_its_folder_and_its_run_go_with_it_however_it_ends(self) -> None:
         for number in signal.SIGTERM, signal.SIGHUP, signal.SIGINT, signal.SIGKILL:
@@ -652,21 +637,21 @@ class Ended(unittest.TestCase):
                     status, told = self.end_by(number, tool, words.split())
                     wanted = (130, f"tools/{tool}: it was interrupted\n") if number == signal.SIGINT else (-number, "")
                     self.assertEqual((status, told), wanted)
-        self.assertFalse((self.folder / "s.log").exists())
+        self.assertFalse((self.room / "s.log").exists())
 
     def end_by(self, number: int, tool: str, given: List[str]) -> Tuple[int, str]:
         """Ends a tool by a signal while lab runs. Returns its status, and what it says on the standard error."""
-        named = {"LAB": str(self.folder / "lab"), "TMPDIR": str(self.room), "PROCESS": str(self.folder / "process")}
+        named = {"LAB": f"{self.room}/lab", "TMPDIR": str(self.temporary), "PROCESS": f"{self.room}/process"}
         words = [sys.executable, "-c", HEED, sys.executable, str(TOP / "tools" / tool), *given]
-        (self.folder / "process").write_text("", encoding="utf-8")
+        self.write("process", "")
         env = {**os.environ, **named}
-        with subprocess.Popen(words, cwd=self.folder, env=env, stderr=subprocess.PIPE, text=True) as process:
+        with subprocess.Popen(words, cwd=self.room, env=env, stderr=subprocess.PIPE, text=True) as process:
             try:
                 wait_for(lambda: self.process() > 0)
-                self.assertEqual([it.name.rpartition("-")[0] for it in self.room.iterdir()], [f"lab-{tool}"])
+                self.assertEqual([it.name.rpartition("-")[0] for it in self.temporary.iterdir()], [f"lab-{tool}"])
                 process.send_signal(number)
                 told = process.communicate(timeout=240)[1]
-                wait_for(lambda: is_ended(self.process()) and not list(self.room.iterdir()))
+                wait_for(lambda: is_ended(self.process()) and not list(self.temporary.iterdir()))
                 return process.returncode, told
             finally:
                 process.kill()
