@@ -20,6 +20,7 @@ import dataclasses
 import functools
 import gzip
 import hashlib
+import importlib
 import io
 import os
 import pathlib
@@ -103,12 +104,9 @@ def documents() -> Tree:
 
 @functools.lru_cache(maxsize=None)
 def answers() -> Dict[str, str]:
-    """Returns what each script of the package answers to --help, by its name."""
-    found = {}
-    for name in names_of_tools():
-        words = [str(TOP / "tools" / name), "--help"]
-        found[name] = subprocess.run(words, check=True, stdout=subprocess.PIPE, encoding="utf-8").stdout
-    return found
+    """Returns what each script of the package answers to --help, by its name: the text of its module."""
+    texts = {name: importlib.import_module(f"labtools.{name}").__doc__ or "" for name in names_of_tools()}
+    return {name: f"{text.strip()}\n" for name, text in texts.items()}
 
 
 def manual(is_installed: bool) -> bytes:

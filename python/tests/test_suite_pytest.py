@@ -1,4 +1,5 @@
 """The plugin of pytest, as pytest runs it in a project of its own. It is passed over where pytest is not installed."""
+import functools
 import re
 import shutil
 import signal
@@ -92,6 +93,12 @@ emulation RunFor 0.00001
 """
 
 
+@functools.lru_cache(maxsize=None)
+def version_with_xdist() -> str:
+    """What pytest says of an option that only pytest-xdist takes."""
+    return subprocess.run([PYTEST, "-n", "0", "--version"], capture_output=True, text=True).stderr
+
+
 class Plugin(WithLab):
     """A project with tests in Python and with scripts."""
 
@@ -107,7 +114,7 @@ class Plugin(WithLab):
         return self.ran(PYTEST, "-p", "labtools.pytest_plugin", "-p", "no:cacheprovider", *words)
 
     def has_xdist(self) -> bool:
-        return "unrecognized arguments: -n" not in self.pytest("-n", "0", "--version").stderr
+        return "unrecognized arguments: -n" not in version_with_xdist()
 
     def results(self, ran: "subprocess.CompletedProcess[str]") -> Dict[str, str]:
         """How each test has ended, by the lines of -v or those of pytest-xdist."""

@@ -219,6 +219,8 @@ class Workers(Rooms):
     """Runs whose boards have slots enough for as many workers as are asked for: eight boards of a script, in a hundred
     rounds of 100,000 slots each, and the sixteen of a generated laboratory, in a thousand of 1,000 slots each."""
 
+    looked: List[List[Dict[str, int]]] = []
+
     def setUp(self) -> None:
         super().setUp()
         lines = [*boards(["additions"] * BOARDS), quantum(1_000), run_for(100_000)]
@@ -237,9 +239,16 @@ class Workers(Rooms):
         self.assertEqual(process.returncode, 0, self.read("log")[-300:])
         return [look for look in looks if look]
 
+    @classmethod
+    def looks_at(cls, test: "Workers") -> List[List[Dict[str, int]]]:
+        """Returns the looks at each of the runs, which are made once for all tests."""
+        if not cls.looked:
+            cls.looked = [test.looks(words, workers) for words, workers in RUNS]
+        return cls.looked
+
     def test_a_run_has_as_many_threads_as_workers(self) -> None:
-        for words, workers in RUNS:
-            self.assertEqual(max(len(look) for look in self.looks(words, workers)), workers, words)
+        for (words, workers), looks in zip(RUNS, self.looks_at(self)):
+            self.assertEqual(max(len(look) for look in looks), workers, words)
 
     def test_a_run_has_no_more_threads_than_boards(self) -> None:
         lines = [*boards(["additions"] * 3), quantum(1_000), run_for(100_000)]
@@ -257,8 +266,7 @@ class Workers(Rooms):
 
     def test_helpers_stay_to_the_end_of_their_run(self) -> None:
         # A helper that is let go before a round, or leaves after one, is not there in nearly all others.
-        for words, workers in RUNS:
-            looks = self.looks(words, workers)
+        for (words, workers), looks in zip(RUNS, self.looks_at(self)):
             together = [frozenset(look) for look in looks if len(look) == workers]
             self.assertGreater(len(together), len(looks) / 2, words)
             self.assertEqual(len(set(together)), 1, "other threads come in place of the first")
