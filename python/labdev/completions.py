@@ -3,7 +3,6 @@ from typing import Dict, Iterable, List
 
 from labtools.common import heads
 
-
 # What is offered where a word of these stands: files, folders, or scripts and the folders that lead to them.
 FILES, FOLDERS, SCRIPTS, NOTHING = "files", "folders", "scripts", "nothing"
 KINDS = {

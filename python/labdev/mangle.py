@@ -60,7 +60,6 @@ LOG = re.compile(
     rb"\[\d+\.\d{6}\] (?:[\w-]+/\w+: .*|pause [\w-]+/\w+: (?:pass|fail \d+))|0x[0-9a-f]{8}|\d+|true|false", re.DOTALL
 )
 
-
 Damage = Tuple["Laboratory", str, int, str]
 
 

@@ -32,7 +32,6 @@ from typing import Dict, Iterator, List, Optional, Tuple
 from labdev.pythons import with_pyelftools
 from labtools.common.program import TOP, end_wrong, path_of_program
 
-
 MARK = re.compile(r"<!-- (lines of|file|run|do)\b ?(.*?) ?-->")
 WITH = re.compile(r"(.*?) ?with (\S+)$")
 STATUS = re.compile(r"(.*) = (\d+)$")

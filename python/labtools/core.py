@@ -30,7 +30,6 @@ from labtools.common.escapes import shown
 from labtools.common.program import end_wrong
 from labtools.logs.log_lines import time_text
 
-
 DEBUGGERS = "riscv64-unknown-elf-gdb", "riscv32-unknown-elf-gdb", "gdb-multiarch"
 # The names that lab takes for boards, so that none leads out of the folder.
 NAME = re.compile(r"[\w-]+", re.ASCII)

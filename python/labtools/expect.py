@@ -29,7 +29,6 @@ from labtools.logs import folded
 from labtools.scripts import reads
 from labtools.suites import kept_logs
 
-
 NO_MEMORY, REFUSED = 72, 73
 UNWRITTEN = REFUSED
 NO_FOLDER = (errno.ENOENT, errno.ENOTDIR, errno.EACCES, errno.EROFS)

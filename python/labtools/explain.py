@@ -25,7 +25,6 @@ from labtools.common import escapes
 from labtools.common.program import parser_of
 from labtools.scripts import cures, mistakes, reads, refusals, resc
 
-
 HERE = pathlib.Path(".")
 TAB = "\t"
 COMPRESSED = 0x1

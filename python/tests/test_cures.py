@@ -14,7 +14,6 @@ from labtools.scripts import cures, parts, reads
 from tests.commands import Content
 from tests.scripts import CPU, RAM, UART, Explained, Files, elf, lab
 
-
 BARE = RAM + CPU
 BOARD = f"{RAM}{UART}can0: CAN.SJA1000 @ sysbus 0x10001000\n{CPU}"
 CLINT = "clint: IRQControllers.CoreLevelInterruptor @ sysbus 0x2000000 { frequency: 1 }\n"

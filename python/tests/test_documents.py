@@ -1,8 +1,7 @@
-"""Tries that what docs/ names stands in the sources: the contracts of docs/PROMISES.md, the wrong bodies of the page on
-tests, the files and crates of docs/ARCHITECTURE.md, the files of docs/DEFINITIONS.md and docs/INSIDE.md, the lemmas
-that are cited above their crate, and quoted lines. That a number which stands in several crates is one number. That the
-records of docs/decisions have their form, and their place in the index. And that lines of the crates have at most 120
-columns. It reads texts alone and needs no program."""
+"""Checks that docs/ agrees with the sources. The pages name only contracts, wrong bodies, files, crates and lemmas that
+exist, and quote only lines that stand there. A number that several crates have is the same in each. The records of
+docs/decisions have their form, and a place in the index. Lines of the crates have at most 120 columns. All this reads
+texts alone, and needs no program."""
 import collections
 import itertools
 import pathlib

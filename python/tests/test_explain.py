@@ -12,7 +12,6 @@ from typing import List, Tuple
 from labtools.common.program import TOP
 from tests.scripts import CPU, RAM, UART, Explained, Files, elf, lab
 
-
 EXPLAIN = str(TOP / "tools" / "explain")
 
 MAKE = 'emulation CreateUARTHub "hub"\nmach create "m0"\nmachine LoadPlatformDescription @board.repl\n'

@@ -15,7 +15,6 @@ from labtools.common.program import TOP
 from labtools.elf import elf, unwind
 from tests.commands import Room
 
-
 HANDLER = 0x80000100
 
 

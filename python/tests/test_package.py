@@ -24,7 +24,6 @@ from labdev import package, wheel
 from labtools.common.manual import manual_page, page_of_script
 from labtools.common.program import TOP, names_of_tools, path_of_program
 
-
 SOURCES = "5" * 64
 KINDS = "archive", "Debian", "wheel"
 NOBODY = ["setpriv", "--reuid=65534", "--regid=65534", "--clear-groups", "--no-new-privs", "env"]

@@ -9,7 +9,6 @@ from typing import Any, List
 from labtools.common.program import TOP
 from tests.suite_projects import DEMO_LINES, NO_VERDICT, SUITE, Project, WithLab, without_seconds
 
-
 DATA = TOP / "python/tests/data/project"
 
 DEMO_TOLD = """\

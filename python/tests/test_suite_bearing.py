@@ -10,7 +10,6 @@ from typing import Callable
 
 from tests.suite_projects import EXPECT, SUITE, Bearing, is_ended, opened_by, wait_for
 
-
 FIFO = "it is a FIFO, not a plain file"
 FOLDER = "it is a folder, not a plain file"
 DEVICE = "it is a device, not a plain file"

@@ -1,7 +1,6 @@
 """Tests of a suite that print much."""
 from tests.suite_projects import SUITE, Bearing, is_ended
 
-
 # Prints accesses where nothing stands until nobody reads them, or, by its last line, something else.
 POLL = "[0.000001] m0/sysbus: read 4 at 0x90000000"
 FLOOD = """#!/bin/sh

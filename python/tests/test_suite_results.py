@@ -1,12 +1,11 @@
-"""Tests of each kind, as they end, and what is told of them: by lines, JUnit and TAP. Expected texts were written by
-hand, by docs/SUITES.md and by the documents of these formats."""
+"""How tests of each kind end, and how a suite reports them: in lines, as JUnit and as TAP. The expected texts were
+written by hand, from docs/SUITES.md and the specifications of these formats."""
 import subprocess
 import sys
 import time
 from typing import Dict, Tuple
 
 from tests.suite_projects import EXPECT, NO_VERDICT, SUITE, WithStandIn, is_ended, without_seconds
-
 
 JUNIT = """\
 <?xml version='1.0' encoding='utf-8'?>
@@ -117,7 +116,7 @@ STATUSES = {
 
 
 class StandIn(WithStandIn):
-    """Tests of each kind, as they end, and what is told of them."""
+    """How tests of each kind end, and how they are reported."""
 
     def test_results(self) -> None:
         """The tests of a table are those of a folder, all of which end so."""

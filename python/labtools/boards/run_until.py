@@ -13,7 +13,6 @@ from labtools.logs.log_lines import time_text
 from labtools.scripts import reads, resc
 from labtools.scripts.reads import Command
 
-
 PAUSE = re.compile(rb"\[(\d+)\.(\d{6})\] pause [\w-]+/\w+: (?:pass|fail \d+)\n")
 REFUSED = re.compile(rb"error: (.*):(\d+): (.*)\n")
 

@@ -8,7 +8,6 @@ from labtools.boards.traps import INTERRUPT
 from labtools.elf.elf import NO_READER, Elf, Line, NoElf, Section, is_readable
 from labtools.elf.unwind import SP, Code, Stack
 
-
 # How the plan of a board names the interrupt controller.
 CONTROLLER: Tuple[str, Dict[str, Any]] = ("part", {"": ("controller", {})})
 EXCEPTIONS = {

@@ -13,7 +13,6 @@ from labtools.scripts.parts import KINDS, Part, Parts
 from labtools.scripts.reads import Board, Scene
 from labtools.scripts.refusals import Refused
 
-
 PLATFORMS = cures.Table("docs/PLATFORMS.md", "| Type | Attributes | Bytes without a range; the least |", 0, 1, 1)
 LINKED = ("uart", "can")
 

@@ -13,7 +13,6 @@ from labtools.scripts import reads, resc
 from labtools.scripts.cures import fits
 from labtools.scripts.reads import Scene
 
-
 SCRIPTS = TOP / "docs/SCRIPTS.md"
 COMMANDS = "| Command | Does | Example |"
 NEAR = 0.72

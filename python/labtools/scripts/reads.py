@@ -24,7 +24,6 @@ from labtools.boards import snapshot
 from labtools.scripts import repl, resc
 from labtools.scripts.resc import Line, Refused
 
-
 FILE_LIMIT = 16 * 2**20
 SNAPSHOT_LIMIT = 64 * 2**20
 TIME_LIMIT = 10**10

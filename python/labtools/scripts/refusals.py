@@ -9,7 +9,6 @@ from typing import List, NamedTuple, Optional
 
 from labtools.scripts import reads, resc
 
-
 HERE = pathlib.Path(".")
 REFUSED = re.compile(r"error: (.*:\d+): (\S+ .*)")
 

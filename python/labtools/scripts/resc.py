@@ -323,7 +323,6 @@ ROWS = (
     Row(("using", "sysbus")),
 )
 
-
 BY_OPENING = {row.opening: row for row in ROWS}
 
 

@@ -11,7 +11,6 @@ from typing import BinaryIO, Deque, Iterator, List, Optional, Tuple, cast
 
 from labtools.logs import folded, log_lines
 
-
 LINE = re.compile(rb"\[\d+\.\d{6}\] ((?:pause )?([\w-]+/\w+): .*)", re.DOTALL)
 VERDICT = re.compile(r"\[\d+\.\d{6}\] pause [\w-]+/\w+: (pass|fail \d+)")
 

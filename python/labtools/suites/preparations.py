@@ -18,7 +18,6 @@ from labtools.scripts import reads
 from labtools.suites import kept_logs, lab_runs, suite_tests
 from labtools.suites.suite_tests import Undone, Wishes, unread
 
-
 # How many scripts may come one after another before a test.
 DEPTH = 100
 SUMS = re.compile(rb"(?:[0-9a-f]{64}  [^\0\n]+\n)*")

@@ -8,7 +8,6 @@ from labtools.common.escapes import shown
 from labtools.scripts import reads
 from labtools.suites import kept_logs, lab_runs
 
-
 EXACT, NOTIMES, VERDICT = MODES = ("exact", "notimes", "verdict")
 MARK = "suite:"
 
