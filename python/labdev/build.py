@@ -143,16 +143,7 @@ class Run:
 
     def __init__(self, words: List[str], log: IO[str]) -> None:
         self.log = log
-        self.process = subprocess.Popen(
-            ["rt", *words],
-            cwd=FOLDER,
-            stdin=subprocess.DEVNULL,
-            stdout=subprocess.PIPE,
-            stderr=subprocess.STDOUT,
-            text=True,
-            errors="replace",
-            start_new_session=True,
-        )
+        self.process = trials.begin(["rt", *words], FOLDER)
 
     def __enter__(self) -> "Run":
         return self

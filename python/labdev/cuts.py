@@ -49,9 +49,11 @@ UNTIL = "--until", "0.02"
 # run takes. It prints what each run prints, its status, and a zero byte.
 BATCH = 50
 TAKE_EACH = """ulimit -v "$1"
-for ((at = 0; at < $2; at++)); do
+at=0
+while [ "$at" -lt "$2" ]; do
   "$3" run "$at.resc" 2>&1 </dev/null
   printf ' %d\\0' "$?"
+  at=$((at + 1))
 done"""
 
 FENCE = '"""'
@@ -87,7 +89,7 @@ class Room:
         """Takes each of these snapshots and saves it again as `0.y` and so on, in little memory."""
         for at, data in enumerate(snapshots):
             self.write(f"{at}.x", data)
-        words = ["bash", "-c", TAKE_EACH, "bash", str(LITTLE_KIB), str(len(snapshots)), self.program]
+        words = ["sh", "-c", TAKE_EACH, "sh", str(LITTLE_KIB), str(len(snapshots)), self.program]
         answers = [it.rpartition(b" ") for it in trials.run(words, self.path, None).printed.split(b"\0")[:-1]]
         return [(printed, int(status)) for printed, _, status in answers]
 

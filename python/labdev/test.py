@@ -140,17 +140,7 @@ class Runs:
         with self.lock:
             if self.is_ended:
                 return None
-            process = subprocess.Popen(
-                test.words,
-                cwd=test.folder,
-                env=self.environment,
-                stdin=subprocess.DEVNULL,
-                stdout=subprocess.PIPE,
-                stderr=subprocess.STDOUT,
-                text=True,
-                errors="replace",
-                start_new_session=True,
-            )
+            process = trials.begin(test.words, test.folder, self.environment)
             self.running[test.name] = process
             return process
 

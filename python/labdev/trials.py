@@ -6,7 +6,7 @@ import shutil
 import signal
 import subprocess
 import sys
-from typing import Any, Iterable, List, Optional, Sequence
+from typing import Any, Dict, Iterable, List, Mapping, Optional, Sequence
 
 from labdev.cases import Files
 from labtools.common.program import TOP, drop_output, name_of_script
@@ -32,6 +32,13 @@ def run(words: Sequence[str], room: str, seconds: Optional[float] = SECONDS, **h
     except subprocess.TimeoutExpired as late:
         return Ended(None, late.stdout or b"")
     return Ended(ran.returncode, ran.stdout or b"", ran.stderr or b"")
+
+
+def begin(words: Sequence[str], folder: object, env: Optional[Mapping[str, str]] = None) -> "subprocess.Popen[str]":
+    """Starts a program in a folder, with a group of its own. What it writes to both outputs is a text to be read."""
+    how: Dict[str, Any] = {"stdin": subprocess.DEVNULL, "stdout": subprocess.PIPE, "stderr": subprocess.STDOUT}
+    how.update(text=True, errors="replace", start_new_session=True)
+    return subprocess.Popen(words, cwd=str(folder), env=env, **how)
 
 
 def put(room: str, files: Files) -> None:

@@ -14,7 +14,7 @@ import unittest
 from pathlib import Path
 from typing import Callable, Dict, List, NamedTuple, Optional, Sequence
 
-from labdev.speed_loads import programs
+from labdev.speed_loads import programs, run_for
 from labtools.common.program import TOP, path_of_program
 from tests.commands import IS_ROOT, Room, become_nobody
 
@@ -61,10 +61,6 @@ def boards(images: Sequence[str], *more: str) -> List[str]:
 
 def quantum(micros: int) -> str:
     return f'emulation SetGlobalQuantum "0.{micros:06}"'
-
-
-def run_for(micros: int) -> str:
-    return f'emulation RunFor "{micros // 1_000_000}.{micros % 1_000_000:06}"'
 
 
 def crowd(*lines: str) -> List[str]:

@@ -359,7 +359,7 @@ class Walk:
             row, arguments = resc.command_of(words)
         except Refused as fault:
             raise self.refuse(str(fault)) from fault
-        command = replace(self.pending, text=" ".join(words), row=row, arguments=arguments)
+        command = Command(" ".join(words), self.pending.file, self.pending.number, row, arguments)
         if row.name not in ("include", "runMacro", "quit"):
             self.reading.commands.append(command)
             self.is_told = True
