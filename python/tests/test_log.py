@@ -182,7 +182,7 @@ class Written(Logs):
 
 
 class Page(Logs):
-    """The page, and what a browser makes of it."""
+    """The page of a log, or of two."""
 
     def data(self, *logs: str) -> Dict[str, List[Any]]:
         self.run_tool("--html", "a.html", *logs)
@@ -192,6 +192,16 @@ class Page(Logs):
         held: Dict[str, List[Any]] = json.loads(found[1])
         return held
 
+    def two_logs(self) -> Tuple[str, str]:
+        """The second log has a line at another time, one with another text, and one more."""
+        self.write("b.log", "[0.000001] m/u: one\n[0.000002] m/u: two\n[0.000003] m/u: three\n")
+        self.write(
+            "c.log", "[0.000001] m/u: one\n[0.000005] m/u: two\n[0.000006] m/u: tree\n[0.000007] pause m/f: fail 1\n"
+        )
+        return "b.log", "c.log"
+
+
+class Data(Page):
     def test_data(self) -> None:
         self.write(
             "b.log",
@@ -209,14 +219,6 @@ class Page(Logs):
         }
         self.assertEqual(self.data("b.log"), {"logs": [wanted]})
 
-    def two_logs(self) -> Tuple[str, str]:
-        """The second log has a line at another time, one with another text, and one more."""
-        self.write("b.log", "[0.000001] m/u: one\n[0.000002] m/u: two\n[0.000003] m/u: three\n")
-        self.write(
-            "c.log", "[0.000001] m/u: one\n[0.000005] m/u: two\n[0.000006] m/u: tree\n[0.000007] pause m/f: fail 1\n"
-        )
-        return "b.log", "c.log"
-
     def test_rows(self) -> None:
         self.assertEqual(self.data(*self.two_logs())["rows"], [[0, 0], [1, 1], [2, 2], [None, 3]])
         self.assertEqual(self.data(*reversed(self.two_logs()))["rows"], [[0, 0], [1, 1], [2, 2], [3, None]])
@@ -226,6 +228,11 @@ class Page(Logs):
         self.run_tool("--html", "a.html", "a.log")
         text = self.read("a.html")
         self.assertIsNone(re.search(r"https?:|src=|<link|@import|fetch\(|\burl\(", text))
+
+
+@unittest.skipUnless(BROWSER, "the page in a browser, without chromium")
+class Browser(Page):
+    """What a browser makes of the page."""
 
     def opened(self, view: str) -> str:
         """The page as chromium has it after a view of it was opened."""
@@ -245,7 +252,6 @@ class Page(Logs):
         texts = inner.split('<span class="half">')[1:] if "half" in inner else [inner]
         return [" ".join(html.unescape(re.sub("<[^>]*>", "", text)).split()) for text in texts]
 
-    @unittest.skipUnless(BROWSER, "the page in a browser, without chromium")
     def test_lines_in_a_browser(self) -> None:
         self.run_tool("--html", "a.html", "a.log")
         wanted = [
@@ -265,7 +271,6 @@ class Page(Logs):
         ]
         self.assertEqual(self.rows_of("lines"), wanted)
 
-    @unittest.skipUnless(BROWSER, "the page in a browser, without chromium")
     def test_differences_in_a_browser(self) -> None:
         self.run_tool("--html", "a.html", *self.two_logs())
         wanted = [
@@ -276,12 +281,10 @@ class Page(Logs):
         ]
         self.assertEqual(self.rows_of("rows"), wanted)
 
-    @unittest.skipUnless(BROWSER, "the page in a browser, without chromium")
     def test_two_logs_open_on_their_differences(self) -> None:
         self.run_tool("--html", "a.html", *self.two_logs())
         self.assertEqual(self.rows_of(""), self.rows_of("rows"))
 
-    @unittest.skipUnless(BROWSER, "the page in a browser, without chromium")
     def test_a_number_that_is_no_lab_time_does_not_stop_it(self) -> None:
         self.write("b.log", LONG_TIMES)
         self.run_tool("--html", "a.html", "b.log")
@@ -305,14 +308,12 @@ class Page(Logs):
             return
         self.assertLess(min(times), seconds)
 
-    @unittest.skipUnless(BROWSER, "the page in a browser, without chromium")
     def test_a_long_log_opens_fast(self) -> None:
         """100,000 lines, no two alike."""
         places = ((n // 10**5, n % 10**5 * 10, n) for n in range(100_000))
         lines = (f"[{s}.{micros:06}] m{n % 4}/uart{n % 3}: line {n}\n" for s, micros, n in places)
         self.assert_opens_within(SECONDS, lines)
 
-    @unittest.skipUnless(BROWSER, "the page in a browser, without chromium")
     def test_a_log_of_many_devices_opens_fast(self) -> None:
         """20,000 devices, each on a board of its own."""
         self.assert_opens_within(SECONDS_OF_MANY, (f"[0.{n:06}] m{n}/uart: line\n" for n in range(20_000)))

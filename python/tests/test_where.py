@@ -130,43 +130,26 @@ class Reports(InRoom):
         registers.update(ra=0x80000016, sp=0x80010000, a4=1, a5=8)
         stay = place(0x80000016, "stay", 0)
         waits = [line("wait_for_interrupt", "hart.h", 22), line("main", "answer.c", 23)]
-        self.assertEqual(
-            hart,
-            {
-                "name": "cpu",
-                "number": 0,
-                "state": "runs",
-                "pc": stay,
-                "interrupts": {"on": False, "enabled": ["external"], "pending": ["external"]},
-                "mtvec": 0x80000038,
-                "handler": place(0x80000038, "answer_to", 0x20, line("answer_to", "answer.c", 9)),
-                "last_trap": {
-                    "mcause": 0x8000000B,
-                    "words": "external interrupt",
-                    "place": place(0x800000BE, "main", 0x2A, *waits),
-                    "mtval": 0,
-                },
-                "stack": [{"place": stay, "how": "now", "is_guess": False}],
-                "registers": registers,
-                "warnings": [
-                    "mtvec is 0x80000038, two bytes before answer: it keeps no bit 1, so a handler needs aligned(4)"
-                ],
-            },
-        )
-        self.assertEqual(
-            board,
-            {
-                "name": "answerer",
-                "images": ["answer.elf"],
-                "devices": [
-                    {"name": "uart", "kind": "uart", "received": [ord("a")], "overrun": False},
-                    {"name": "can", "kind": "can", "received": [], "overrun": False},
-                ],
-                "claimed": [],
-                "sources": [],
-                "warnings": [],
-            },
-        )
+        vector = "mtvec is 0x80000038, two bytes before answer: it keeps no bit 1, so a handler needs aligned(4)"
+        trapped = place(0x800000BE, "main", 0x2A, *waits)
+        wanted = {
+            "name": "cpu",
+            "number": 0,
+            "state": "runs",
+            "pc": stay,
+            "interrupts": {"on": False, "enabled": ["external"], "pending": ["external"]},
+            "mtvec": 0x80000038,
+            "handler": place(0x80000038, "answer_to", 0x20, line("answer_to", "answer.c", 9)),
+            "last_trap": {"mcause": 0x8000000B, "words": "external interrupt", "place": trapped, "mtval": 0},
+            "stack": [{"place": stay, "how": "now", "is_guess": False}],
+            "registers": registers,
+            "warnings": [vector],
+        }
+        self.assertEqual(hart, wanted)
+        uart = {"name": "uart", "kind": "uart", "received": [ord("a")], "overrun": False}
+        can = {"name": "can", "kind": "can", "received": [], "overrun": False}
+        wanted = {"name": "answerer", "images": ["answer.elf"], "devices": [uart, can]}
+        self.assertEqual(board, {**wanted, "claimed": [], "sources": [], "warnings": []})
 
 
 # The words that sources.S reads: IER of the UART, the priority of its source, what the contexts 0 and 1 enable, the
@@ -305,14 +288,9 @@ class Controllers(InRoom):
 
 
 class Stacks(InRoom):
-    def test_two_harts_with_one_stack_are_told(self) -> None:
-        self.assertIn(
-            "  warning: cpu0 and cpu1 have one stack: sp is 0x8000ffe0 and 0x80010000; give each its own by its"
-            " mhartid, as demo/harts does\n",
-            self.where("both.resc"),
-        )
-
-    def test_two_harts_with_stacks_of_their_own_are_not(self) -> None:
+    def test_two_harts_with_one_stack_are_told_and_those_with_stacks_of_their_own_are_not(self) -> None:
+        stacks = "sp is 0x8000ffe0 and 0x80010000; give each its own by its mhartid, as demo/harts does"
+        self.assertIn(f"  warning: cpu0 and cpu1 have one stack: {stacks}\n", self.where("both.resc"))
         self.assertNotIn("have one stack", self.where("work.resc", "talker=talk.elf"))
 
 
@@ -331,22 +309,23 @@ class Times(InRoom):
         return lines[0], next(text.split()[1] for text in lines if text.startswith("    pc "))
 
     def test_a_run_is_cut_at_a_time(self) -> None:
-        self.assertEqual(self.pc_at("ask.resc", "--at", "0.000501"), ("at 0.000501", "0x8000001c"))
-        self.assertEqual(self.pc_at("ask.resc", "--at", "0.0005"), ("at 0.000500", "0x80000018"))
-        self.assertEqual(self.pc_at("ask.resc", "--at=0.000003"), ("at 0.000003", "0x8000000c"))
-        self.assertEqual(self.pc_at("ask.resc", "--at", "0.001"), ("at 0.001000", "0x80000018"))
-        self.assertEqual(
-            self.refused("ask.resc", "--at", "0.001001"), "tools/where: ask.resc: the script ends at 0.001000\n"
-        )
+        for word, time, pc in (
+            ("--at 0.000501", "0.000501", "0x8000001c"),
+            ("--at 0.0005", "0.000500", "0x80000018"),
+            ("--at=0.000003", "0.000003", "0x8000000c"),
+            ("--at 0.001", "0.001000", "0x80000018"),
+        ):
+            self.assertEqual(self.pc_at("ask.resc", *word.split()), (f"at {time}", pc))
+        told = self.refused("ask.resc", "--at", "0.001001")
+        self.assertEqual(told, "tools/where: ask.resc: the script ends at 0.001000\n")
 
     def test_a_run_that_a_finisher_ends_is_as_long_as_it_was(self) -> None:
         self.write("finisher.repl", FINISHER)
         self.write("finishing.resc", FINISHING)
         # the first run ends at 0.0001, the second lasts to 0.0011, and `start` runs to the time of --until, or to 1
-        self.assertEqual(self.pc_at("finishing.resc", "--at", "0.0001"), ("at 0.000100", "0x80000010"))
-        self.assertEqual(self.pc_at("finishing.resc", "--at", "0.0003"), ("at 0.000300", "0x80000010"))
-        self.assertEqual(self.pc_at("finishing.resc", "--at", "0.0015"), ("at 0.001500", "0x80000010"))
-        self.assertEqual(self.pc_at("finishing.resc", "--until", "0.002"), ("at 0.002000", "0x80000010"))
+        for words in "--at 0.000100", "--at 0.000300", "--at 0.001500", "--until 0.002000":
+            option, time = words.split()
+            self.assertEqual(self.pc_at("finishing.resc", option, time), (f"at {time}", "0x80000010"))
         self.assertFalse((self.room / "own").exists(), "the script's own snapshot is not written")
         told = self.refused("finishing.resc", "--until", "0.002", "--at", "0.003")
         self.assertEqual(told, "tools/where: finishing.resc: the script ends at 0.002000\n")
@@ -365,11 +344,9 @@ class Times(InRoom):
 class Faults(InRoom):
     def test_a_refused_line_is_told_by_its_own_place(self) -> None:
         self.write("bad.resc", 'mach create m0\nmacro two\n"""\nusing sysbus\ncpu Wrong\n"""\nrunMacro $two\n')
-        self.assertEqual(
-            self.refused("bad.resc"), "tools/where: bad.resc: lab refused bad.resc:5: S1 unknown command\n"
-        )
-        self.write("outer.resc", "using sysbus\ninclude @inner.resc\n")
-        self.write("inner.resc", "\n\nmach set $unset\n")
+        line = "tools/where: bad.resc: lab refused bad.resc:5: S1 unknown command\n"
+        self.assertEqual(self.refused("bad.resc"), line)
+        self.put({"outer.resc": "using sysbus\ninclude @inner.resc\n", "inner.resc": "\n\nmach set $unset\n"})
         self.assertEqual(self.refused("outer.resc"), "tools/where: outer.resc: lab refused inner.resc:3: S3 variable\n")
 
     def test_what_cannot_be_read_is_told(self) -> None:
@@ -519,11 +496,9 @@ class Guesses(unittest.TestCase):
         self.assertEqual(unwind.prologue(short, 0x1000, 0x100C), (80, {1: -4, 8: -80}))
 
     def test_jumps_of_a_table_are_followed(self) -> None:
-        self.assertEqual(unwind.jump_target(0x1000, 0x0080006F), 0x1008)
-        self.assertEqual(unwind.jump_target(0x1000, 0xFF1FF06F), 0x0FF0)
-        self.assertEqual(unwind.jump_target(0x1000, 0x0010006F), 0x1800)
-        self.assertEqual(unwind.jump_target(0x1000, 0x0000106F), 0x2000)
-        self.assertEqual(unwind.jump_target(0x1000, 0x008000EF), 0x1000)
+        targets = {0x0080006F: 0x1008, 0xFF1FF06F: 0x0FF0, 0x0010006F: 0x1800, 0x0000106F: 0x2000, 0x008000EF: 0x1000}
+        for word, target in targets.items():
+            self.assertEqual(unwind.jump_target(0x1000, word), target)
         self.assertEqual(unwind.jump_target(0x1000, None), 0x1000)
 
     def test_memory_is_read_over_the_border_of_pages(self) -> None:
