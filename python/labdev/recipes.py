@@ -1,10 +1,10 @@
-"""Runs what the documents show: README.md and the other pages at the top, and docs/. Prints what is not so, and what it
-passes over.
+"""Runs what the documents show: README.md and the other pages at the top, and docs/. Prints what is not true, and what
+it passes over.
 
     tools/recipes [DOCUMENT ..]
 
-A comment in a document, on a line of its own, says what the block after it is. A block is indented by four blanks, or
-it is a table, whose lines begin with a bar.
+A comment on a line of its own says what the block after it is. A block is indented by four blanks, or it is a table,
+whose lines begin with a bar.
 
     <!-- lines of PATH -->     these lines stand in that file of the repository, one after another
     <!-- file PATH -->         the room gets a file of these lines
@@ -12,12 +12,11 @@ it is a table, whose lines begin with a bar.
     <!-- run COMMAND = N -->   the same, and it ends with N
     <!-- do -->                each of these lines is a command, and they end with 0
 
-At its end a comment may say `with PROGRAM`, or `with FILE`: the block is tried only where that program, or that file,
-is installed on the machine.
+A comment may end with `with PROGRAM` or `with FILE`: its block is tried only if that program or file is installed.
 
-Each document has a room of its own, a new folder in which its commands run. `lab`, `tools` and `demo` are there. With
-LAB set, `lab` is ./lab with that program. What is passed over is told by a line that begins with `passed over`. It ends
-with 0, with 1 where something is not so, and with 2 where a document cannot be read.
+Each document has a room of its own, a new folder in which its commands run, with `lab`, `tools` and `demo`. With LAB
+set, `lab` is ./lab with that program. A line that begins with `passed over` tells what is passed over. It ends with 0;
+with 1 if something is not true; and with 2 if a document cannot be read.
 """
 import itertools
 import os
