@@ -8,11 +8,10 @@ from typing import Callable, Dict, Iterable, List, Optional, Sequence, Tuple
 
 from labtools.common.manual import rows_after
 from labtools.common.program import TOP
-from labtools.scripts import reads
-from labtools.scripts import resc
+from labtools.logs.log_lines import time_text
+from labtools.scripts import reads, resc
 from labtools.scripts.cures import fits
 from labtools.scripts.reads import Scene
-
 
 SCRIPTS = TOP / "docs/SCRIPTS.md"
 COMMANDS = "| Command | Does | Example |"
@@ -42,10 +41,6 @@ def openings(count: int) -> List[str]:
     return [" ".join(opening) for opening in rows if len(opening) == count]
 
 
-def of_processors() -> List[str]:
-    return [row.opening[1] for row in resc.ROWS if row.opening[0] == "*"]
-
-
 def without_blank(word: str) -> Optional[str]:
     """The command whose second word stands alone, as `LoadELF`, or behind a point, as `sysbus.LoadELF`."""
     own = word.lower().split(".")[-2:]
@@ -56,11 +51,12 @@ def without_blank(word: str) -> Optional[str]:
 def near_command(words: Sequence[str]) -> Optional[Tuple[str, str]]:
     """The words that are nearly a command's, and the command."""
     first, second = words[0], "".join(words[1:2])
+    of_processors = [row.opening[1] for row in resc.ROWS if row.opening[0] == "*"]
     pairs = (
         (first, without_blank(first)),
         (f"{first} {second}", near(f"{first} {second}", openings(2)) if second else None),
         (first, near(first, openings(1))),
-        (second, near(second, of_processors())),
+        (second, near(second, of_processors)),
     )
     return next(((own, other) for own, other in pairs if other), None)
 
@@ -254,8 +250,7 @@ LIMITS: Dict[resc.Sort, str] = {
 
 def written(seconds: Fraction) -> str:
     """A time as a script has it, to the microsecond, at least one where it is any."""
-    micros = max(round(seconds / MICROSECOND), 1 if seconds else 0)
-    return f'"{micros // 10**6}.{micros % 10**6:06}"'
+    return f'"{time_text(max(round(seconds / MICROSECOND), 1 if seconds else 0))}"'
 
 
 def in_other_form(text: str) -> str:
