@@ -53,6 +53,16 @@ pub fn decode(word: u32) -> Option<Instr>
     Some(instr_from(op.format(), op, word))
 }
 
+/// The instruction that a word means, taken from the word again by its name. Where the name is a constant, so is the
+/// format, and the compiler asks for neither.
+pub fn decode_as(i: &Instr, op: Op, word: u32) -> Instr
+    requires means { means word ≡ Some i.now }
+    requires named { i.now.op ≡ op }
+    ensures { result ≡ i.now }
+{
+    instr_from(op.format(), op, word)
+}
+
 /// No word matches two rows of the table, and no instruction has two.
 pub fn rows_differ()
     ensures words { (word : ℕ) → count_by (matches word) table ≤ 1 }
