@@ -215,8 +215,8 @@ fn do_word<const COPY: u8, D: Device>(
     }
 }
 
-/// The same of a word that was fetched by halves, whose processor has the loop of `perform` for half-words beside it: in
-/// that loop an arm for each instruction of a word makes slots dearer.
+/// Does a word that was fetched by half-words. Its loop holds `perform` for half-words already, and an arm for each
+/// instruction of a word beside that would make slots slower.
 #[inline(always)]
 fn do_word_of_halves<const COPY: u8, D: Device>(
     hart: &mut Hart,

@@ -353,8 +353,8 @@ fn do_product(hart: &mut Hart, i: &Instr, word: u32)
     }
 }
 
-/// Clears bits of a control and status register. It is a function of its own, since those that are inlined into the loop
-/// of a slot may not grow much further.
+/// Clears bits of a control and status register. It stands apart from the loop of a slot, whose functions are inlined
+/// only while they stay small enough.
 #[inline(never)]
 fn clear_csr(hart: &mut Hart, operand: u32, i: &Instr, word: u32, lines: Lines)
     requires { IsInstr i.now }
