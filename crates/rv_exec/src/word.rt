@@ -1,6 +1,9 @@
 //! One word: what it means is done. Each instruction has an arm of its own, which takes its fields from the word by a
 //! constant name, so that the compiler joins the decoder's choice and this one.
 ghost use Rattle.std.specs.Prelude.{◌≡◌, ℕ, ◌%◌, ◌<◌, Some, true, OnOk, OnErr};
+ghost use Rattle.std.specs.Option.{option_map};
+ghost use Rattle.rv_decode.specs.declared.instruction.Format.TheVariants.{R};
+ghost use Rattle.rv_decode.specs.Table.{row_of};
 ghost use Rattle.rv_decode.specs.Means.{means, IsInstr, is_relative};
 ghost use Rattle.rv_hart.specs.declared.csr.Lines.{Lines as Given};
 ghost use Rattle.rv_hart.specs.Core.{reg};
@@ -35,7 +38,7 @@ use crate::bus::Bus;
 use crate::csr::{CsrChange, change_csr};
 use crate::ending::{advance, branch, finish, jump, leave, trap, wait};
 use lab_num::NoMemory;
-use rv_decode::{Instr, Op, decode, decode_as};
+use rv_decode::{Instr, Op, decode, decode_as, decode_registers};
 use rv_hart::{Exception, Hart, Lines};
 
 /// What an operation reads, and the number of the register that gets its result.
@@ -68,13 +71,14 @@ fn immediate_operands(hart: &Hart, i: &Instr, op: Op, word: u32) -> Operands
 fn register_operands(hart: &Hart, i: &Instr, op: Op, word: u32) -> Operands
     requires means { means word ≡ Some i.now }
     requires named { i.now.op ≡ op }
+    requires format { option_map (λ row. row.format) (row_of op) ≡ Some R }
     requires fields { IsInstr i.now }
     ensures rd { result.rd ≡ i.now.rd }
     ensures a { result.a ≡ reg hart.now i.now.rs1 }
     ensures b { result.b ≡ reg hart.now i.now.rs2 }
     ensures register { result.rd < 32 }
 {
-    let i = decode_as(i, op, word);
+    let i = decode_registers(i, op, word);
     Operands {
         rd: i.rd,
         a: hart.register(i.rs1),
@@ -252,7 +256,7 @@ fn do_immediate(hart: &mut Hart, i: &Instr, word: u32)
 }
 
 /// An operation on two registers that is no product and no quotient.
-#[tactic(auto, unfolding(crate::specs::Effect::effect_by))]
+#[tactic(auto, unfolding(crate::specs::Effect::effect_by, rv_decode::specs::Table::row_of))]
 #[inline(always)]
 fn do_registers(hart: &mut Hart, i: &Instr, word: u32)
     requires means { means word ≡ Some i.now }
@@ -307,7 +311,7 @@ fn do_registers(hart: &mut Hart, i: &Instr, word: u32)
 }
 
 /// A product, a quotient or a remainder.
-#[tactic(auto, unfolding(crate::specs::Effect::effect_by))]
+#[tactic(auto, unfolding(crate::specs::Effect::effect_by, rv_decode::specs::Table::row_of))]
 #[inline(always)]
 fn do_product(hart: &mut Hart, i: &Instr, word: u32)
     requires means { means word ≡ Some i.now }
