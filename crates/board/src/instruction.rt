@@ -1,6 +1,7 @@
 //! One instruction of one of a board's processors.
 ghost use Rattle.std.specs.Prelude.{◌≡◌, ◌<◌, length, true, false, OnOk, OnErr};
 ghost use Rattle.rv_atomic.specs.SharedEffect.{IsSharable};
+ghost use Rattle.rv_exec.specs.declared.fetched.Fetched.TheVariants.{Fault};
 ghost use Rattle.rv_exec.specs.Effect.{bus_after, core_after, effect};
 ghost use Rattle.rv_exec.specs.Laws.{IsSameHart};
 ghost use Rattle.board.specs.Fetch.{fetched_by, shared_by};
@@ -13,7 +14,7 @@ use crate::slot::Features;
 use dev_core::Device;
 use lab_num::NoMemory;
 use rv_atomic::{Shared, Watch, decode_atomic, laws, step_shared};
-use rv_exec::{Fetched, perform};
+use rv_exec::{Fetched, perform, perform_word};
 use rv_hart::{Hart, Lines};
 
 /// Does the instruction at the processor's pc, or enters the trap of its exception.
@@ -59,10 +60,30 @@ fn by_words<const COPY: u8, D: Device>(
     ensures bus_err { OnErr result (bus.new ≡ bus.old) }
 {
     let at = hart.pc();
-    let Some(word) = bus.space.fetch_aligned(at) else {
-        return perform(hart, Fetched::Fault(at), bus, lines);
-    };
-    perform(hart, Fetched::of_word(word), bus, lines)
+    match bus.space.fetch_aligned(at) {
+        Some(word) => perform_word(hart, word, bus, lines),
+        None => by_fault(hart, at, bus, lines),
+    }
+}
+
+/// Enters the trap of a place where no memory is.
+#[cold]
+#[inline(never)]
+fn by_fault<D: Device>(
+    hart: &mut Hart,
+    at: u32,
+    bus: &mut HartBus<D>,
+    lines: Lines,
+) -> Result<(), NoMemory>
+    ensures core { let effect = effect hart.old (Fault at) lines in
+        OnOk result (hart.new ≡ core_after answer bus.old effect) }
+    ensures bus { let effect = effect hart.old (Fault at) lines in
+        OnOk result (bus.new ≡ bus_after loaded stored bus.old effect) }
+    ensures same { OnOk result (IsSameHart hart.old hart.new) }
+    ensures core_err { OnErr result (hart.new ≡ hart.old) }
+    ensures bus_err { OnErr result (bus.new ≡ bus.old) }
+{
+    perform(hart, Fetched::Fault(at), bus, lines)
 }
 
 /// The same of a processor alone, without atomic instructions and with compressed ones. Each size

@@ -7,4 +7,5 @@ pub mod Rows
 pub mod FitLemmas
 pub mod OffsetLemmas
 pub mod Formats
+pub mod Shift
 mod KnownWords

@@ -29,11 +29,8 @@ pub fn sign_extend(n: u32, count: u32) -> u32
     requires fits { n < 2 ^ count }
     ensures { result ≡ sign_extended count n }
 {
-    if n < 1 << (count - 1) {
-        n
-    } else {
-        n + (u32::MAX - (1 << count) + 1)
-    }
+    let above = 32 - count;
+    ((n << above).cast_signed() >> above).cast_unsigned()
 }
 
 /// The immediate of format I, bits 31 to 20.

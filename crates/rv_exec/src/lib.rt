@@ -11,7 +11,9 @@ mod execute;
 mod fetched;
 pub mod laws;
 mod operation;
+mod word;
 
 pub use bus::{Bus, low_bytes};
 pub use execute::{perform, step};
 pub use fetched::Fetched;
+pub use word::{perform_meant, perform_word};
