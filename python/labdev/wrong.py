@@ -5,12 +5,16 @@
     tools/wrong --all      those of every crate: some three hours
     tools/wrong --check    tries nothing, and says which crates have changed since; .ci/run asks this
 
-`rt must-fail NAME ..` tries them, one crate after another, over a copy of the tree in which they are in must-fail/.
-The copy takes along the libraries that this checkout has built; `rt` builds those that are missing or out of date.
+It works on a copy of the tree, with the libraries that this checkout has built; `rt` builds those that are missing or
+out of date. Edits of the bodies of different functions lie on the copy together, and `rt check --only F --only G ..`
+tries them. `refused with others` is said of an edit whose function has a goal of its own that is not proved, and that
+is proved by the same command without the edits. Every other edit is tried alone by `rt must-fail NAME`, which decides:
+one of a contract, a method of a trait, a type or a constant, and one of which the check of its function says nothing.
 Where all edits of a crate were refused, crates/NAME/wrong/tried gets the sum of the crate's own sources and the sum of
 each edit. Commit it with the change. It ends with 0, with 1 where an edit was not refused or a crate has changed since
 its edits were tried, and with 2 where it is called otherwise.
 """
+import os
 import pathlib
 import re
 import shutil
@@ -18,12 +22,17 @@ import subprocess
 import tempfile
 from typing import List, Set
 
+from labdev.batches import refused_together
+from labdev.crates import below, uses_of
+from labdev.edit_places import place_of
 from labdev.wrong_bodies import WrongBodies, crates_with_wrong_bodies
 from labtools.common.program import TOP, end_unless, end_wrong
 
 USAGE = "NAME .. | --stale | --all | --check"
 # What rt says of an edit that the prover has refused.
 REFUSED = re.compile(r"must-fail (\w+)/(\S+\.edit): refused, as it must be")
+# The letters of why an edit was refused that are shown.
+SHOWN = 160
 
 
 def asked_for(words: List[str]) -> List[WrongBodies]:
@@ -38,25 +47,53 @@ def asked_for(words: List[str]) -> List[WrongBodies]:
     return [every[it] for it in words]
 
 
+def link_or_copy(one: str, other: str) -> None:
+    """Gives a file of a library a second name, as the kit does, which never writes into such a file."""
+    try:
+        os.link(one, other)
+    except OSError:
+        shutil.copy2(one, other)
+
+
 def copy_tree(crates: List[WrongBodies], to: pathlib.Path) -> None:
-    """Copies what rt reads and the libraries that are built here, with the edits of these crates, and no others, in
-    their folders must-fail/ too."""
-    shutil.copytree(TOP / "crates", to / "crates", ignore=shutil.ignore_patterns("incremental", "must-fail"))
+    """Copies the sources, without any edit in a folder must-fail/, and takes along the libraries below these crates
+    that are built here."""
     for name in "crates.txt", "HANDLES":
         shutil.copy(TOP / name, to)
-    for crate in crates:
-        folder = to / "crates" / crate.name
-        (folder / "must-fail").mkdir()
-        for edit in WrongBodies(folder).edits():
-            shutil.copy(edit, folder / "must-fail")
+    shutil.copytree(TOP / "crates", to / "crates", ignore=shutil.ignore_patterns("out", "must-fail"))
+    uses = uses_of((TOP / "crates.txt").read_text(encoding="utf-8"))
+    for name in set().union(*(below(uses, it.name) for it in crates)):
+        library = pathlib.Path("crates", name, "out", "rlib")
+        if (TOP / library).is_dir():
+            shutil.copytree(TOP / library, to / library, copy_function=link_or_copy)
 
 
-def refused_by_prover(crates: List[WrongBodies], folder: pathlib.Path) -> Set[str]:
-    """Has rt try the edits in that copy, showing what it says, and returns those that were refused, as CRATE/EDIT."""
-    words = ["rt", "must-fail", *(it.name for it in crates)]
+def try_together(crate: WrongBodies) -> Set[str]:
+    """Tries the edits of a copied crate in batches where that can be done, and returns those that were refused, as
+    CRATE/EDIT."""
+    found = (place_of(crate.folder, it) for it in crate.edits())
+    refused = refused_together(crate.folder, [it for it in found if it])
+    for edit, why in refused.items():
+        print(f"{crate.name}/{edit}: refused with others: {why[:SHOWN]}", flush=True)
+    return {f"{crate.name}/{it}" for it in refused}
+
+
+def try_alone(crates: List[WrongBodies], folder: pathlib.Path, refused: Set[str]) -> Set[str]:
+    """Has rt try the other edits of these copied crates, each alone, showing what it says, and returns those that were
+    refused, as CRATE/EDIT."""
+    left = [(it, edit) for it in crates for edit in it.edits() if f"{it.name}/{edit.name}" not in refused]
+    for crate, edit in left:
+        (crate.folder / "must-fail").mkdir(exist_ok=True)
+        shutil.copy(edit, crate.folder / "must-fail")
+    names = list(dict.fromkeys(it.name for it, _ in left))
+    return refused_by_prover(names, folder) if names else set()
+
+
+def refused_by_prover(names: List[str], folder: pathlib.Path) -> Set[str]:
+    """Has rt try the edits that lie in the folders must-fail/ of these crates, and returns those that it refuses."""
     refused = set()
     with subprocess.Popen(
-        words,
+        ["rt", "must-fail", *names],
         cwd=folder,
         stdout=subprocess.PIPE,
         stderr=subprocess.STDOUT,
@@ -78,9 +115,11 @@ def try_edits(crates: List[WrongBodies]) -> int:
     with tempfile.TemporaryDirectory(prefix="lab-wrong-") as room:
         folder = pathlib.Path(room)
         copy_tree(crates, folder)
+        copies = [WrongBodies(folder / "crates" / it.name) for it in crates]
         # (of the copy, which nobody changes meanwhile)
-        sums = {it.name: WrongBodies(folder / "crates" / it.name).sums() for it in crates}
-        refused = refused_by_prover(crates, folder)
+        sums = {it.name: it.sums() for it in copies}
+        refused: Set[str] = set().union(*map(try_together, copies))
+        refused |= try_alone(copies, folder, refused)
     failed = False
     for crate in crates:
         missed = [it for it in sums[crate.name] if it != "sources" and f"{crate.name}/{it}" not in refused]
