@@ -4,10 +4,10 @@
 
 `rt all` proves each crate as soon as the crates that it uses are proved, so many at a time. (Several calls of `rt`
 would not run side by side: each keeps others away from all crates below its own.) There are as many lanes as
-processors, and fewer where memory is short; LANES is a number from 1 to 999. What was proved before, and has not
-changed since, takes seconds. It says at the start how long it will take about, and on the way how much of that is done,
-by the lines of the crates that are new or have changed. It ends with 0 where the program stands, and else with 1, with
-2 where it is called otherwise, or with 130 where it was interrupted.
+processors, and fewer if memory is short; LANES is a number from 1 to 999. A crate that was proved before and has not
+changed takes seconds. It first says about how long it will take, and on the way how much is done, counted by the lines
+of the crates that are new or have changed. It ends with 0 if the program is built, and else with 1; with 2 if it is
+called wrongly; and with 130 if it was interrupted.
 """
 import hashlib
 import heapq
@@ -23,8 +23,7 @@ import time
 from typing import IO, Dict, Iterable, Iterator, List, Optional
 
 from labdev import trials
-from labdev.crates import PROGRAM as CRATE_OF_PROGRAM
-from labdev.crates import below, uses_of
+from labdev.crates import PROGRAM as CRATE_OF_PROGRAM, below, uses_of
 from labdev.released import sum_of_sources
 from labtools.common.program import TOP, end_unless, number_of
 
@@ -144,16 +143,7 @@ class Run:
 
     def __init__(self, words: List[str], log: IO[str]) -> None:
         self.log = log
-        self.process = subprocess.Popen(
-            ["rt", *words],
-            cwd=FOLDER,
-            stdin=subprocess.DEVNULL,
-            stdout=subprocess.PIPE,
-            stderr=subprocess.STDOUT,
-            text=True,
-            errors="replace",
-            start_new_session=True,
-        )
+        self.process = trials.begin(["rt", *words], FOLDER)
 
     def __enter__(self) -> "Run":
         return self

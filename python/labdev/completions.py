@@ -3,18 +3,10 @@ from typing import Dict, Iterable, List
 
 from labtools.common import heads
 
-
 # What is offered where a word of these stands: files, folders, or scripts and the folders that lead to them.
 FILES, FOLDERS, SCRIPTS, NOTHING = "files", "folders", "scripts", "nothing"
-KINDS = {
-    "FILE": FILES,
-    "LOG": FILES,
-    "SNAPSHOT": FILES,
-    "PROGRAM": FILES,
-    "BOARD=ELF": FILES,
-    "FOLDER": FOLDERS,
-    "SCRIPT": SCRIPTS,
-}
+KINDS = dict.fromkeys(("FILE", "LOG", "SNAPSHOT", "PROGRAM", "BOARD=ELF"), FILES)
+KINDS.update(FOLDER=FOLDERS, SCRIPT=SCRIPTS)
 
 
 def kind_of(words: Iterable[str]) -> str:

@@ -1,14 +1,13 @@
-"""Measures what large input costs the program that stands built, and tools/suite: the seconds of the processor and the
-most memory of a run over each of these files, and how it ends. The memory of a suite is that of the largest program
-that it starts, or its own.
+"""Measures what large input costs the program and tools/suite: the processor seconds and the most memory of a run over
+each of these files, and how it ends. The memory of a suite is its own, or that of the largest program that it starts.
 
     tools/costs              all of them
     tools/costs WORD ..      those whose names have one of these words
     tools/costs --gate COMMAND ..
-                             runs this command, as `rt ci`, and prints what the prover took for each crate
+                             runs this command, such as `rt ci`, and prints what the prover took for each crate
 
-A run is ended after a minute. With LAB set that program is run. docs/MEASURED.md has what it printed. It ends with 0,
-with 2 where no name has one of the words, and with --gate as the command does.
+A run is ended after a minute. With LAB set, that program runs. docs/MEASURED.md has what it printed. It ends with 0;
+with 2 if no name has one of the words; and with --gate as the command does.
 """
 import os
 import struct

@@ -3,19 +3,19 @@
     tools/cuts
 
 Each demo is cut at each of its commands: the commands before it and `Save`, and in a new run `Load` and the commands
-from there on, with one, two and eight workers, have to print and to answer what the whole script does. What is loaded
-is saved again, with the same bytes. The lines that are open where a script ends are printed there, so they are printed
-by both halves: the first half's are passed over. So is a laboratory of sixteen boards cut, at many times, that has all
-there is: four processors, one halted, one waiting and one with a reservation, a claimed interrupt, full FIFOs, bytes
-and frames under way, held frames, and open lines.
+from there on, with one, two and eight workers, have to print and to answer what the whole script does. `start` runs to
+0.02 seconds. What is loaded is saved again, with the same bytes. The lines that are open where a script ends are
+printed there, so they are printed by both halves: the first half's are passed over. A laboratory of sixteen boards is
+cut in the same way, at many times. It has all there is: four processors, one halted, one waiting and one with a
+reservation, a claimed interrupt, full FIFOs, bytes and frames under way, held frames, and open lines.
 
 Two snapshots are then damaged. One is of less than 2 KB, without a page of memory: a board of two processors, a timer,
 an interrupt controller, a UART and a CAN controller that hold something, a board with the two devices alone, hubs with
 delays, a byte and a frame under way, and open lines. Every byte of it is changed, in two ways, and it is cut off at
-every length. The other one, of 9 KB, is of two boards with a hub, a byte under way and an open line. Of this one all
-bytes and lengths outside of pages of memory are tried, and each 97th inside of them; a page has zeros only, pages do
-not rise, or one comes twice. To both a byte is added, and each count of a list is 2^64 - 1. Each is refused as S20, or
-is a laboratory that is saved again to exactly those bytes. No memory is taken for a count that the bytes cannot hold. A
+every length. The other, of 9 KB, is of two boards with a hub, a byte under way and an open line. Of this one all bytes
+and lengths outside pages of memory are tried, and each 97th inside them; a page has zeros only, pages do not rise, or
+one comes twice. To both a byte is added, and each count of a list is 2^64 - 1. Each is refused as S20, or is a
+laboratory that is saved again to exactly those bytes. No memory is taken for a count that the bytes cannot hold. A
 snapshot of 64 MiB is kept and taken back; one of a byte more is refused as S19, and so is a file of that size.
 
 Nothing is printed but what is wrong. It ends with 0 where nothing was, with 1 where something was, and with 2 where it
@@ -38,19 +38,25 @@ from labdev.cases import Files
 from labdev.cut_labs import board, pages_in
 from labtools.boards import snapshot
 from labtools.common.program import TOP, end_unless, path_of_program
+from labtools.scripts import resc
 
 MOST = 64 * 2**20
 # What the program may have of memory where a snapshot of some kilobytes is taken back.
 LITTLE_KIB = 40 * 2**10
-# How many damaged snapshots a shell takes one after another, since a program of its own to start each would take longer
-# than the run: it prints the status of each.
+# How far `start` runs, which takes a second of a processor and more where nothing is said.
+UNTIL = "--until", "0.02"
+# A shell takes so many damaged snapshots one after another, since Python would take longer to start each run than the
+# run takes. It prints what each run prints, its status, and a zero byte.
 BATCH = 50
 TAKE_EACH = """ulimit -v "$1"
-for ((at = 0; at < $2; at++)); do
-  "$3" run "$at.resc" >"$at.out" 2>&1 </dev/null
-  echo "$?"
+at=0
+while [ "$at" -lt "$2" ]; do
+  "$3" run "$at.resc" 2>&1 </dev/null
+  printf ' %d\\0' "$?"
+  at=$((at + 1))
 done"""
 
+FENCE = '"""'
 # What a run has printed, and its status.
 Answer = Tuple[bytes, Optional[int]]
 # Lines of a script that belong together, and whether they are a command or set a variable or a macro.
@@ -75,53 +81,40 @@ class Room:
     def run(self, script: List[str], *words: str) -> Answer:
         """Runs a script of these lines."""
         self.write("s.resc", "".join(f"{line}\n" for line in script).encode())
-        ended = trials.run([self.program, "run", "s.resc", *words], self.path, None, stderr=subprocess.STDOUT)
+        how = [self.program, "run", "s.resc", *UNTIL, *words]
+        ended = trials.run(how, self.path, None, stderr=subprocess.STDOUT)
         return ended.printed, ended.status
 
     def take_each(self, snapshots: List[bytes]) -> List[Answer]:
         """Takes each of these snapshots and saves it again as `0.y` and so on, in little memory."""
         for at, data in enumerate(snapshots):
             self.write(f"{at}.x", data)
-            self.write(f"{at}.resc", f"Load @{at}.x\nSave @{at}.y\n".encode())
-            with contextlib.suppress(FileNotFoundError):
-                os.remove(f"{self.path}/{at}.y")
-        words = ["bash", "-c", TAKE_EACH, "bash", str(LITTLE_KIB), str(len(snapshots)), self.program]
-        statuses = trials.run(words, self.path, None).printed.split()
-        return [(self.read(f"{at}.out"), int(status)) for at, status in enumerate(statuses)]
+        words = ["sh", "-c", TAKE_EACH, "sh", str(LITTLE_KIB), str(len(snapshots)), self.program]
+        answers = [it.rpartition(b" ") for it in trials.run(words, self.path, None).printed.split(b"\0")[:-1]]
+        return [(printed, int(status)) for printed, _, status in answers]
 
 
 @contextlib.contextmanager
 def new_room(program: str) -> Iterator[Room]:
     with tempfile.TemporaryDirectory(prefix="lab-cuts-") as path:
         os.symlink(f"{TOP}/demo", f"{path}/demo")
+        trials.put(path, {f"{at}.resc": f"Load @{at}.x\nSave @{at}.y\n".encode() for at in range(BATCH)})
         yield Room(program, path)
 
 
-def lines_of(path: str) -> List[str]:
-    """Returns the lines of a script, with those of the files that it includes in their places."""
-    lines: List[str] = []
-    with open(f"{TOP}/{path}", encoding="utf-8") as file:
-        for line in file.read().splitlines():
-            included = re.match(r"\s*include\s+@(\S+)", line)
-            lines += lines_of(included[1]) if included else [line]
-    return lines
-
-
-def items_of(lines: List[str]) -> List[Item]:
+def items_of(text: str) -> List[Item]:
+    """Returns the items of a script, with those of the files that it includes in their places."""
     items: List[Item] = []
-    rest = iter(lines)
-    for line in rest:
-        if re.match(r"\s*(#|:|$)", line):
-            continue
-        if re.match(r"\s*macro\s", line):
-            block = [line]
-            quotes = line.count('"""')
-            while quotes < 2:
-                block.append(next(rest))
-                quotes += block[-1].count('"""')
-            items.append((block, False))
+    for item in resc.items_of(resc.numbered(text)):
+        words = resc.words_of(item.line.text)
+        included = resc.path_of(words[1]) if words[0] == "include" else None
+        if included:
+            items += items_of((TOP / included).read_text(encoding="utf-8"))
+        elif isinstance(item, resc.Define):
+            body = [line.text for line in item.body]
+            items.append(([f"macro {item.name}", FENCE, *body, FENCE], False))
         else:
-            items.append(([line], not re.match(r"\s*\$\w+\s*\??=", line)))
+            items.append(([item.line.text], isinstance(item, resc.Command)))
     return items
 
 
@@ -146,11 +139,11 @@ def selected_after(item: Item, names: List[str], before: int, selected: Optional
 class Cuts:
     """A script, which is cut at each of its commands."""
 
-    def __init__(self, room: Room, name: str, lines: List[str], files: Files) -> None:
+    def __init__(self, room: Room, name: str, text: str, files: Files) -> None:
         trials.put(room.path, files)
         self.room = room
         self.name = name
-        self.items = items_of(lines)
+        self.items = items_of(text)
         self.whole = room.run(lines_in(self.items))
 
     def wrong(self) -> Iterator[str]:
@@ -185,9 +178,9 @@ class Cuts:
                 yield f"{self.name}: goes on otherwise with {workers} workers, after: {command}"
 
 
-def wrong_cuts(program: str, name: str, lines: List[str], files: Files) -> List[str]:
+def wrong_cuts(program: str, name: str, text: str, files: Files) -> List[str]:
     with new_room(program) as room:
-        return list(Cuts(room, name, lines, files).wrong())
+        return list(Cuts(room, name, text, files).wrong())
 
 
 def try_missing(room: Room) -> Iterator[str]:
@@ -204,8 +197,9 @@ def try_missing(room: Room) -> Iterator[str]:
 
 def sample(room: Room) -> bytes:
     """Makes a snapshot of two boards, a hub, a byte under way and an open line."""
-    lines = [line for line in lines_of("demo/slow/s.resc") if not re.match(r"\s*emulation\s+(RunFor|SetGlobal)", line)]
-    room.run([*lines, 'emulation SetGlobalQuantum "0.000001"', 'emulation RunFor "0.000020"', "Save @x"])
+    lines = lines_in(items_of((TOP / "demo/slow/s.resc").read_text(encoding="utf-8")))
+    made = [line for line in lines if not re.match(r"\s*emulation\s+(RunFor|SetGlobal)", line)]
+    room.run([*made, 'emulation SetGlobalQuantum "0.000001"', 'emulation RunFor "0.000020"', "Save @x"])
     return room.read("x")
 
 
@@ -329,8 +323,11 @@ def all_wrong(program: str) -> Iterator[str]:
         trials.put(room.path, files)
         room.run(lines)
         small, larger = room.read("x"), sample(room)
-        jobs: List[Tuple[str, List[str], Files]] = [(it, lines_of(it), {}) for it in trials.scripts_of_demos()]
-        jobs.append(("a laboratory of all", *cut_labs.everything()))
+        jobs: List[Tuple[str, str, Files]] = [
+            (it, (TOP / it).read_text(encoding="utf-8"), {}) for it in trials.scripts_of_demos()
+        ]
+        lines, files = cut_labs.everything()
+        jobs.append(("a laboratory of all", "\n".join(lines), files))
         cuts = pool.map(lambda it: wrong_cuts(program, *it), jobs)
         damages = pool.map(lambda jobs: try_damaged(rooms, jobs), batches(all_damaged(small, larger)))
         yield from itertools.chain.from_iterable(cuts)

@@ -1,15 +1,13 @@
-"""Runs the program that stands built where the system refuses it something: files that cannot be read or do not end,
-outputs that are closed, full or gone, runs that are killed, calls that a signal interrupts. Prints what is wrong and
-nothing else.
+"""Runs the program where the system refuses it something: files that cannot be read or never end, outputs that are
+closed, full or gone, runs that are killed, calls that a signal interrupts. Prints what is wrong and nothing else.
 
     tools/edges             these
-    tools/edges --limits    each demo under twenty limits of its memory too, and with a stack of 64 KB
+    tools/edges --limits    also each demo under twenty limits of memory, and with a stack of 64 KB
 
-Under a limit a run has to end with the demo's log and status, or with 1 and a front of that log: never by a signal,
-late or with other bytes. The least limit is the one at which the program, run without words, still says how it is
-called: below it the loader of the system finds no memory for it. Interrupted calls are tried where `strace` is
-installed. With LAB set that program is run. It ends with 0 where nothing was wrong, with 1 where something was, and
-with 2 where its words are wrong.
+Under a limit a run must end with the demo's log and status, or with 1 and a beginning of that log: never by a signal,
+late, or with other bytes. The lowest limit is the one at which the program, run without words, still prints its usage:
+below it the system's loader finds no memory for it. Interrupted calls are tried if `strace` is installed. With LAB set,
+that program runs. It ends with 0; with 1 if something was wrong; and with 2 if its words are wrong.
 """
 import os
 import pathlib

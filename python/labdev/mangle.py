@@ -1,23 +1,23 @@
-"""Runs the program that stands built on damaged files: the scripts, platform files, images and snapshots of each case
-and demo, with one byte changed, dropped or doubled. A snapshot that a case makes itself, by an earlier run, is one too.
+"""Runs the program on damaged files: the scripts, platform files, images and snapshots of each case and demo, with one
+byte changed, dropped or doubled. A snapshot that an earlier run of a case makes is one of them.
 
     tools/mangle              at every place of every file
-    tools/mangle COUNT        so many such files, drawn from a fixed seed
-    tools/mangle COUNT SEED   and from another one
+    tools/mangle COUNT        so many damaged files, drawn from a fixed seed
+    tools/mangle COUNT SEED   drawn from another seed
 
-Each damaged laboratory is checked by `lab check`, and run. Told is an end by a signal or with another status than 0, 3
-or 4, or 6 where a file has the word `Save` or `Load`, a text on the standard error, a refusal whose last line has
-another form than docs/SCRIPTS.md says, a line of another form than those of the log, a check that takes more than a
-second, and a check and a run that disagree. These agree where they end alike with one refusal, but for what a run alone
-sees or does: that lab time ends (S14), that it has passed before a `Load` (S21), that a file cannot be kept by `Save`
-(6), and that one is, which a later `Load` of a check does not find (6). A run that goes on for more than a second is
-ended, and what it has printed is looked at: a changed time may have made it longer.
+`lab check` checks each damaged laboratory, and then it is run. These are faults: an end by a signal, or with a status
+other than 0, 3 or 4 (or 6, if a file has the word `Save` or `Load`); a text on the standard error; a refusal whose last
+line does not have the form in docs/SCRIPTS.md; a line that no log has; a check that takes more than a second; and a
+check and a run that disagree. The two agree if they end alike with the same refusal. They may differ in what only a run
+sees or does: lab time ends (S14) or has passed before a `Load` (S21), a `Save` cannot keep a file (6), or it keeps one
+that a later `Load` of the check does not find (6). A run that goes on for more than a second is ended, and what it has
+printed is looked at: a changed time may have made it longer.
 
 Each trial begins with the files of its laboratory and no others: what a run has kept is removed. Laboratories of more
-than 100,000 bytes are passed over. With COUNT nothing is printed but what is wrong, and a folder in which it can be
-tried; without it also how much was tried. As many are tried at a time as there are processors for it: `taskset` gives
-it fewer. It ends with 0 where nothing was wrong, with 1 where something was, and with 2 where its words are wrong:
-COUNT is a number from 1 to as many as there are.
+than 100,000 bytes are passed over. With COUNT only faults are printed, each with a folder in which to try it; without
+COUNT also how much was tried. As many trials run at a time as there are processors; `taskset` gives it fewer. It ends
+with 0; with 1 if there was a fault; and with 2 if its words are wrong: COUNT is a number from 1 to as many as there
+are.
 """
 import bisect
 import collections
@@ -59,7 +59,6 @@ REFUSAL = re.compile(rb"error: (.*):(\d+): ([A-Z]\d+ [a-z0-9 -]+)", re.DOTALL)
 LOG = re.compile(
     rb"\[\d+\.\d{6}\] (?:[\w-]+/\w+: .*|pause [\w-]+/\w+: (?:pass|fail \d+))|0x[0-9a-f]{8}|\d+|true|false", re.DOTALL
 )
-
 
 Damage = Tuple["Laboratory", str, int, str]
 

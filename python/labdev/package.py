@@ -1,25 +1,26 @@
-"""Makes the packages of lab: an archive that runs where it is unpacked, one for Debian, and a wheel for pip.
+"""Makes the packages of lab: an archive that runs where it is unpacked, a Debian package, and a wheel for pip.
 
-    tools/package [FOLDER]    makes them there, or in out/package
+    tools/package [FOLDER]    writes them to FOLDER, or to out/package
 
-They are lab-VERSION-x86_64-linux.tar.gz, lab_VERSION_amd64.deb and
-lab_emulator-VERSION-py3-none-manylinux_2_34_x86_64.whl. All have the program, the tools that its users need, the
-documents, and a file SUMS with the version, the sum of the sources, the sum of the program and the logic by which they
-were proved; the first two also the manual page lab(1), made from docs/SCRIPTS.md, completion for bash, the changes from
-version to version, and the demos. The program is bin/lab, or the one that was built here, whichever was built from the
-present sources; nothing is built. The same files give the same bytes. Without dpkg-deb the Debian package is not made,
-and a line says so. It ends with 0, with 1 where there is no such program, and with 2 where its words are wrong.
+They are called lab-VERSION-x86_64-linux.tar.gz, lab_VERSION_amd64.deb and
+lab_emulator-VERSION-py3-none-manylinux_2_34_x86_64.whl. Each contains the program, the tools for users, the documents,
+and a file SUMS with the version, the sum of the sources, the sum of the program, and the logic that proved it. The
+archive and the Debian package also contain the manual page lab(1), completion for bash, the changelog and the demos.
+The program is bin/lab or the one that was built here, whichever was built from the present sources; nothing is built.
+The same files always give the same bytes. If dpkg-deb is not installed, the Debian package is left out, and a line says
+so. It ends with 0; with 1 if no program was built from the present sources; and with 2 if its words are wrong.
 
-The archive is a folder as the repository is: ./lab, tools/, docs/ and demo/ stand in it. The Debian package puts that
-folder to /usr/lib/lab, its commands to /usr/bin as lab, lab-expect and so on, and documents and demos to
-/usr/share/doc/lab. There each command has a manual page, made from what it answers to --help, and the documents call it
-as it is called there. What lintian would say of it stands in packaging/lintian-overrides, with the reasons. The wheel
-is the package `labtools`, which has the program and the documents in its folder `share`; pip makes the same commands.
+The archive is laid out like the repository, with ./lab, tools/, docs/ and demo/. The Debian package puts that folder in
+/usr/lib/lab, its commands in /usr/bin as lab, lab-expect and so on, and documents and demos in /usr/share/doc/lab. Each
+command has a manual page, which is made from its --help, and the installed documents use the installed names.
+packaging/lintian-overrides lists what lintian would report, with the reasons. The wheel is the package `labtools`, with
+the program and the documents in its folder `share`; pip makes the same commands.
 """
 import dataclasses
 import functools
 import gzip
 import hashlib
+import importlib
 import io
 import os
 import pathlib
@@ -33,10 +34,9 @@ from typing import Dict, List
 from labdev import wheel
 from labdev.completions import completion as completion_of_scripts
 from labdev.packed import DATE, Entry, Tree, file_of, files_below, link, put
-from labdev.released import Sums, fault_of, sum_of, sums_kept_with
+from labdev.released import Sums, fault_of, sum_of, sum_of_sources, sums_kept_with
 from labtools.common.manual import manual_page, page_of_script
 from labtools.common.program import TOP, end_wrong, named_as_installed, names_of_tools, parser_of, tell
-
 
 PROGRAMS = TOP / "bin/lab", TOP / "crates/lab_cli/out/lab_cli"
 # What the kit writes into each program that it has proved, and how much of it `rt version` prints.
@@ -49,9 +49,9 @@ class Refused(Exception):
 
 def released_program() -> pathlib.Path:
     """Returns the program that was built from the present sources. bin/lab has to have its sum."""
-    said = subprocess.run([TOP / "tools/sources"], check=True, stdout=subprocess.PIPE, text=True)
+    sources = sum_of_sources()
     for program in PROGRAMS:
-        if program.is_file() and sums_kept_with(program).sources == said.stdout.strip():
+        if program.is_file() and sums_kept_with(program).sources == sources:
             fault = fault_of(program) if program == PROGRAMS[0] else None
             if fault:
                 raise Refused(fault)
@@ -103,12 +103,9 @@ def documents() -> Tree:
 
 @functools.lru_cache(maxsize=None)
 def answers() -> Dict[str, str]:
-    """Returns what each script of the package answers to --help, by its name."""
-    found = {}
-    for name in names_of_tools():
-        words = [str(TOP / "tools" / name), "--help"]
-        found[name] = subprocess.run(words, check=True, stdout=subprocess.PIPE, encoding="utf-8").stdout
-    return found
+    """Returns what each script of the package answers to --help, by its name: the text of its module."""
+    texts = {name: importlib.import_module(f"labtools.{name}").__doc__ or "" for name in names_of_tools()}
+    return {name: f"{text.strip()}\n" for name, text in texts.items()}
 
 
 def manual(is_installed: bool) -> bytes:

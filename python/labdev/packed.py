@@ -6,7 +6,6 @@ from typing import Dict, Optional
 
 from labtools.common.program import TOP
 
-
 # The date of every packed file, so that the same files give the same bytes: 2026-01-01.
 DATE = 1767225600
 # What runs of demos leave behind.

@@ -1,10 +1,10 @@
-"""Runs what the documents show: README.md and the other pages at the top, and docs/. Prints what is not so, and what it
-passes over.
+"""Runs what the documents show: README.md and the other pages at the top, and docs/. Prints what is not true, and what
+it passes over.
 
     tools/recipes [DOCUMENT ..]
 
-A comment in a document, on a line of its own, says what the block after it is. A block is indented by four blanks, or
-it is a table, whose lines begin with a bar.
+A comment on a line of its own says what the block after it is. A block is indented by four blanks, or it is a table,
+whose lines begin with a bar.
 
     <!-- lines of PATH -->     these lines stand in that file of the repository, one after another
     <!-- file PATH -->         the room gets a file of these lines
@@ -12,12 +12,11 @@ it is a table, whose lines begin with a bar.
     <!-- run COMMAND = N -->   the same, and it ends with N
     <!-- do -->                each of these lines is a command, and they end with 0
 
-At its end a comment may say `with PROGRAM`, or `with FILE`: the block is tried only where that program, or that file,
-is installed on the machine.
+A comment may end with `with PROGRAM` or `with FILE`: its block is tried only if that program or file is installed.
 
-Each document has a room of its own, a new folder in which its commands run. `lab`, `tools` and `demo` are there. With
-LAB set, `lab` is ./lab with that program. What is passed over is told by a line that begins with `passed over`. It ends
-with 0, with 1 where something is not so, and with 2 where a document cannot be read.
+Each document has a room of its own, a new folder in which its commands run, with `lab`, `tools` and `demo`. With LAB
+set, `lab` is ./lab with that program. A line that begins with `passed over` tells what is passed over. It ends with 0;
+with 1 if something is not true; and with 2 if a document cannot be read.
 """
 import itertools
 import os
@@ -31,7 +30,6 @@ from typing import Dict, Iterator, List, Optional, Tuple
 
 from labdev.pythons import with_pyelftools
 from labtools.common.program import TOP, end_wrong, path_of_program
-
 
 MARK = re.compile(r"<!-- (lines of|file|run|do)\b ?(.*?) ?-->")
 WITH = re.compile(r"(.*?) ?with (\S+)$")
@@ -167,9 +165,11 @@ def is_so(document: str, text: str, program: str) -> bool:
     """Tries all blocks of a document, and says which are wrong, and what was passed over."""
     is_well = True
     lacking: Dict[Optional[str], int] = {}
+    marks = list(marks_of(text))
     with tempfile.TemporaryDirectory(prefix="lab-recipes-") as room:
-        furnish(room, program)
-        for line, kind, words, rest in marks_of(text):
+        if marks:
+            furnish(room, program)
+        for line, kind, words, rest in marks:
             try:
                 lacks = try_block(kind, words, block_after(rest), room)
                 lacking[lacks] = lacking.get(lacks, 0) + 1

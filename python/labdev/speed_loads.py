@@ -4,6 +4,8 @@ import functools
 import pathlib
 from typing import Callable, Dict, Iterator, List, Optional, Sequence, Tuple
 
+from labtools.logs.log_lines import time_text
+
 LOOPS = pathlib.Path(__file__).with_name("speed.loops")
 START = 0x80000000
 # Where each processor's memory begins on a board on which each has one of its own.
@@ -146,10 +148,6 @@ def platform(form: Form) -> str:
         text += f'cpu{hart}: CPU.RiscV32 @ sysbus\n    cpuType: "rv32im{form.letters}"\n'
         text += f"    PerformanceInMips: {form.mips}\n" + "    timeProvider: clint\n" * form.is_wired
     return text
-
-
-def time_text(micros: int) -> str:
-    return f"{micros // 1_000_000}.{micros % 1_000_000:06}"
 
 
 def board(number: int, form: Form) -> List[str]:

@@ -1,17 +1,17 @@
-"""Runs the program that stands built with one request for memory refused, a run for each: each of the first 1,000
-requests of a laboratory, and then each hundredth up to its last.
+"""Runs the program with one request for memory refused: each of the first 1,000 requests of a laboratory, and then each
+hundredth up to its last, in a run of its own.
 
     tools/starve            six runs: one board, four boards by two workers, a usual script, sixteen boards, two boards
                             that are kept, and these taken back
     tools/starve FIRST      each of the first so many requests
 
-A run has to end as the one that is refused nothing, or with 1 and a front of what that one prints: never by a signal,
-late, with other bytes, or with more blocks of memory not freed. Each is made in a folder of its own, which has the
-snapshot of an earlier one that is refused nothing where the run takes one back. Then the folder has to hold what it did
-before, or what it holds after a run that is refused nothing: so a snapshot is whole, or is not there. Told is what ends
-otherwise, and a line for each laboratory with how its runs have ended. It needs a C compiler, `cc`, for the few lines
-by which requests are counted and one is refused. With LAB set that program is run. It ends with 0 where nothing was
-wrong, with 1 where something was, and with 2 where its words are wrong: FIRST is a number from 1 on.
+A run must end like the run that is refused nothing, or with 1 and a beginning of what that one prints: never by a
+signal, late, with other bytes, or with more blocks of memory not freed. Each has a folder of its own, with the snapshot
+of an earlier run if it takes one back. Afterwards the folder must hold what it held before, or what it holds after a
+run that is refused nothing: a snapshot is whole or absent. It prints which runs end otherwise, and a line for each
+laboratory with how its runs have ended. It needs a C compiler, `cc`, for the few lines that count requests and refuse
+one. With LAB set, that program runs. It ends with 0; with 1 if something was wrong; and with 2 if its words are wrong:
+FIRST is a number from 1 on.
 """
 import concurrent.futures
 import dataclasses

@@ -1,16 +1,16 @@
-"""Tries all that can be tried with the program that stands, side by side on all processors: the demos and the cases
-with one, two and eight workers, ./lab and the scripts of tools/, damaged files, snapshots, and what the documents show.
+"""Runs all tests that need no proof, side by side on all processors: the demos and the cases with one, two and eight
+workers, ./lab and the scripts of tools/, damaged files, snapshots, and what the documents show.
 
     ./test               all of it
     ./test WORD ..       the tests whose names have one of these words
-    ./test --list ..     prints the names, and tries nothing
-    ./test --released    also whether bin/lab is the program that was built here, as .ci/run asks
+    ./test --list ..     prints the names, and runs nothing
+    ./test --released    also compares bin/lab with the program that was built here, as .ci/run asks
 
-It proves nothing: .ci/run does. With LAB set that program is tried, else the one that ./lab runs, which is built first
-where it has to be. It prints how far it is, what a test that has failed says, and what another one passes over (its
-lines that begin so), since a program is not installed that it needs, or root may do all. The last line is `N passed, M
-failed`. It ends with 0, with 1 where a test has failed, or where bin/lab is to be tried and has not the sum that is
-kept with it, and with 2 where it is called otherwise or no test's name has one of the words.
+It proves nothing: .ci/run does. It tests the program of LAB, or else the one that ./lab runs, which is built first if
+needed. It prints how far it is, what a failed test says, and what a test passes over (its lines that begin so) because
+a program is not installed, or because root may do everything. The last line is `N passed, M failed`. It ends with 0;
+with 1 if a test failed, or if bin/lab is to be tested and is not the program of the sum kept with it; and with 2 if it
+is called wrongly or no test's name has one of the words.
 """
 import concurrent.futures
 import dataclasses
@@ -32,10 +32,10 @@ from labtools.common.program import TOP, drop_output, parser_of, path_of_program
 
 RELEASED = TOP / "bin/lab"
 DECISIONS = TOP / "docs/decisions"
-# What a test may take at most, and after how many seconds it is told again how far they are.
+# The most seconds that a test may take, and how often the progress is printed.
 SECONDS = 900
 TOLD_EACH = 10
-# How long each test took the last time: the longest begin first.
+# How long each test took the last time. The longest begin first.
 TIMES = TOP / "out/test.times"
 # How many damaged files tools/mangle tries.
 DAMAGED = 400
@@ -43,7 +43,7 @@ DAMAGED = 400
 
 @dataclasses.dataclass(frozen=True)
 class Test:
-    """A command by its name, and the seconds that it takes where no earlier run has told."""
+    """A command with its name, and its seconds if no earlier run has told them."""
 
     name: str
     words: List[str]
@@ -53,7 +53,7 @@ class Test:
 
 @dataclasses.dataclass
 class Result:
-    """How a test has ended: what is wrong, or nothing, what it has said, and its seconds."""
+    """How a test has ended: the fault, if any, what it printed, and its seconds."""
 
     fault: Optional[str]
     said: str
@@ -140,17 +140,7 @@ class Runs:
         with self.lock:
             if self.is_ended:
                 return None
-            process = subprocess.Popen(
-                test.words,
-                cwd=test.folder,
-                env=self.environment,
-                stdin=subprocess.DEVNULL,
-                stdout=subprocess.PIPE,
-                stderr=subprocess.STDOUT,
-                text=True,
-                errors="replace",
-                start_new_session=True,
-            )
+            process = trials.begin(test.words, test.folder, self.environment)
             self.running[test.name] = process
             return process
 
@@ -191,7 +181,7 @@ class Runs:
 
 
 class Progress:
-    """How far the tests are: one line that is written again on a terminal, and else a line now and then."""
+    """Shows how far the tests are: in one line that is rewritten on a terminal, and else in a line now and then."""
 
     def __init__(self, count: int, runs: Runs) -> None:
         self.count = count

@@ -1,4 +1,4 @@
-"""Folders in which tools run the program that stands, how these runs end, and what is told of those that end wrong."""
+"""Runs the program in folders of files, and tells which runs went wrong."""
 import dataclasses
 import glob
 import os
@@ -6,7 +6,7 @@ import shutil
 import signal
 import subprocess
 import sys
-from typing import Any, Iterable, List, Optional, Sequence
+from typing import Any, Dict, Iterable, List, Mapping, Optional, Sequence
 
 from labdev.cases import Files
 from labtools.common.program import TOP, drop_output, name_of_script
@@ -17,8 +17,7 @@ SECONDS = 60
 
 @dataclasses.dataclass(frozen=True)
 class Ended:
-    """How a run has ended, by its status or by None where it went on, what it has printed, and what it has told on the
-    standard error."""
+    """The status of a run, or None if it was still going, and what it wrote to the standard output and error."""
 
     status: Optional[int]
     printed: bytes
@@ -26,13 +25,20 @@ class Ended:
 
 
 def run(words: Sequence[str], room: str, seconds: Optional[float] = SECONDS, **how: Any) -> Ended:
-    """Runs a program in a folder, for so long at most."""
+    """Runs a program in a folder, and ends it after so many seconds."""
     how = {"stdin": subprocess.DEVNULL, "stdout": subprocess.PIPE, "stderr": subprocess.PIPE, "cwd": room, **how}
     try:
         ran = subprocess.run(words, timeout=seconds, **how)
     except subprocess.TimeoutExpired as late:
         return Ended(None, late.stdout or b"")
     return Ended(ran.returncode, ran.stdout or b"", ran.stderr or b"")
+
+
+def begin(words: Sequence[str], folder: object, env: Optional[Mapping[str, str]] = None) -> "subprocess.Popen[str]":
+    """Starts a program in a folder, with a group of its own. What it writes to both outputs is a text to be read."""
+    how: Dict[str, Any] = {"stdin": subprocess.DEVNULL, "stdout": subprocess.PIPE, "stderr": subprocess.STDOUT}
+    how.update(text=True, errors="replace", start_new_session=True)
+    return subprocess.Popen(words, cwd=str(folder), env=env, **how)
 
 
 def put(room: str, files: Files) -> None:
@@ -66,8 +72,8 @@ def scripts_of_demos() -> List[str]:
 
 
 def unwind_at_ends() -> None:
-    """From now on a signal that ends this tool, or a reader that goes, is an exception, so that its rooms and what it
-    has started go too."""
+    """Turns signals that end this tool, and a reader that goes away, into exceptions. So its folders are removed, and
+    what it has started is ended."""
     signal.signal(signal.SIGPIPE, signal.SIG_IGN)
     for number in (signal.SIGTERM, signal.SIGHUP):
         signal.signal(number, lambda told, _: sys.exit(128 + told))
@@ -79,7 +85,7 @@ def lanes() -> int:
 
 
 def tell_wrong(texts: Iterable[str]) -> int:
-    """Prints what is wrong, as it is found, and returns the status of the tool."""
+    """Prints each fault as it is found, and returns the tool's status."""
     status = 0
     unwind_at_ends()
     try:

@@ -12,7 +12,6 @@ from typing import Iterator, List, Tuple
 from labdev.packed import DATE, Entry, Tree, files_below
 from labtools.common.program import TOP, names_of_tools
 
-
 # The program needs the GNU C library 2.34 on x86-64.
 TAG = "py3-none-manylinux_2_34_x86_64"
 WHEEL = f"Wheel-Version: 1.0\nGenerator: lab tools/package\nRoot-Is-Purelib: false\nTag: {TAG}\n"

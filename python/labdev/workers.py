@@ -23,8 +23,9 @@ from typing import Dict, List, NamedTuple, Tuple
 
 from labdev import trials
 from labdev.speed import program_of_words
-from labdev.speed_loads import BOARDS, Form, Run, board, files, programs, run_for, time_text
+from labdev.speed_loads import BOARDS, Form, Run, board, files, programs, run_for
 from labtools.common.program import end_wrong, parser_of
+from labtools.logs.log_lines import time_text
 
 WORKERS = 1, 2, 4, 8
 # How long a run may take, in seconds.

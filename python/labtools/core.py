@@ -22,14 +22,13 @@ import shlex
 import shutil
 from typing import Any, Dict, Iterator, List
 
-from labtools.boards import core_files
-from labtools.boards import looks
+from labtools.boards import core_files, looks
 from labtools.boards.machine import machine_of
-from labtools.boards.run_until import Held, time_text
+from labtools.boards.run_until import Held
 from labtools.boards.snapshot import NoSnapshot
 from labtools.common.escapes import shown
 from labtools.common.program import end_wrong
-
+from labtools.logs.log_lines import time_text
 
 DEBUGGERS = "riscv64-unknown-elf-gdb", "riscv32-unknown-elf-gdb", "gdb-multiarch"
 # The names that lab takes for boards, so that none leads out of the folder.

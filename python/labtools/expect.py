@@ -24,13 +24,10 @@ import subprocess
 import sys
 from typing import BinaryIO, List
 
-from labtools.common import plain_files
-from labtools.common import program
-from labtools.common import rooms
+from labtools.common import plain_files, program, rooms
 from labtools.logs import folded
-from labtools.scripts import finishers
+from labtools.scripts import reads
 from labtools.suites import kept_logs
-
 
 NO_MEMORY, REFUSED = 72, 73
 UNWRITTEN = REFUSED
@@ -89,7 +86,7 @@ def warn(script: str, log: str, printed: BinaryIO) -> None:
     if failures:
         tell(f"{log} says that a test has failed, so later runs are expected to fail it too:")
         program.tell("\n".join(failures))
-    if not kept_logs.has_verdict(printed) and finishers.has_finisher(script, pathlib.Path()):
+    if not kept_logs.has_verdict(printed) and reads.has_finisher(script, pathlib.Path()):
         tell(f"{log} has no verdict (`pause .. pass`), though a board has a finisher: did the test finish?")
 
 

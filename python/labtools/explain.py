@@ -23,12 +23,7 @@ from typing import List, Optional
 
 from labtools.common import escapes
 from labtools.common.program import parser_of
-from labtools.scripts import cures
-from labtools.scripts import mistakes
-from labtools.scripts import reads
-from labtools.scripts import refusals
-from labtools.scripts import resc
-
+from labtools.scripts import cures, mistakes, reads, refusals, resc
 
 HERE = pathlib.Path(".")
 TAB = "\t"

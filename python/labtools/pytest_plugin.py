@@ -14,15 +14,10 @@ from typing import Any, Callable, Dict, Generator, Iterable, List, Optional, Seq
 import pytest
 
 from labtools.common.escapes import shown, shown_lines
-from labtools.suites import lab_runs
-from labtools.suites import laboratories
-from labtools.suites import sessions
-from labtools.suites import shards
-from labtools.suites import suite_reports
-from labtools.suites import trials
+from labtools.common.program import program_or
+from labtools.suites import lab_runs, laboratories, sessions, shards, suite_reports, trials
 from labtools.suites.laboratories import Lab
 from labtools.suites.suite_reports import Outcome
-from labtools.suites.suite_tests import Undone
 
 # How many runs of a test that has failed are shown.
 SHOWN_RUNS = 3
@@ -62,10 +57,7 @@ class Project:
     def trials(self) -> trials.Trials:
         """Made when the first test needs it, since ./lab may build its program then."""
         if self.made is None:
-            try:
-                program = trials.program()
-            except Undone as fault:
-                raise pytest.UsageError(str(fault)) from fault
+            program = program_or(pytest.UsageError)
             seconds = float(self.config.getoption("--lab-timeout"))
             runs = lab_runs.Runs(program, self.folder, seconds, sessions.MOST_PRINTED)
             end_by_signals(runs)

@@ -10,8 +10,7 @@ times decimal. A page of memory is shown by its number and its count of bytes ot
 import sys
 from typing import List
 
-from labtools.boards import kept_labs
-from labtools.boards import snapshot
+from labtools.boards import kept_labs, snapshot
 from labtools.common.escapes import shown
 from labtools.common.program import as_called, end_wrong
 

@@ -38,10 +38,7 @@ import pathlib
 import sys
 from typing import List
 
-from labtools.suites import sessions
-from labtools.suites import shards
-from labtools.suites import suite_reports
-from labtools.suites import trials
+from labtools.suites import sessions, shards, suite_reports, trials
 
 # What this ends with where what it prints cannot be written.
 UNWRITTEN = 2

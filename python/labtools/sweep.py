@@ -31,14 +31,8 @@ from typing import BinaryIO, Dict, Iterator, List, Optional, Sequence, Tuple
 
 from labtools.common import plain_files
 from labtools.common.escapes import shown
-from labtools.scripts import reads
-from labtools.scripts import resc
-from labtools.suites import kept_logs
-from labtools.suites import lab_runs
-from labtools.suites import sessions
-from labtools.suites import shards
-from labtools.suites import suite_tests
-from labtools.suites import trials
+from labtools.scripts import reads, resc
+from labtools.suites import kept_logs, lab_runs, sessions, shards, suite_tests, trials
 from labtools.suites.suite_reports import Outcome
 from labtools.suites.suite_tests import Finding, Undone
 

@@ -20,10 +20,7 @@ import dataclasses
 import json
 from typing import List, Tuple
 
-from labtools.boards import looks
-from labtools.boards import run_until
-from labtools.boards import where
-from labtools.boards import where_text
+from labtools.boards import looks, run_until, where, where_text
 from labtools.common.escapes import shown
 
 

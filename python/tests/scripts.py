@@ -1,20 +1,15 @@
-"""What the tests of scripts share: the program, a folder for files, boards, and ELF files."""
+"""What the tests of scripts share: the program, what tools/explain says, boards, and ELF files."""
 import contextlib
 import functools
 import io
-import os
-import pathlib
-import shutil
 import struct
 import subprocess
-import tempfile
-import unittest
-from typing import Dict, List, Mapping, Union
+from typing import Dict, List
 
 from labtools import explain
 from labtools.common.program import path_of_program
+from tests.commands import Content, Room
 
-Content = Union[str, bytes]
 Files = Dict[str, Content]
 
 RAM = "ram: Memory.MappedMemory @ sysbus 0x80000000 { size: 0x10000 }\n"
@@ -28,25 +23,7 @@ def lab() -> str:
     return path_of_program()
 
 
-class InFolder(unittest.TestCase):
-    """A test with an empty folder of its own."""
-
-    maxDiff = None
-
-    def setUp(self) -> None:
-        self.folder = pathlib.Path(tempfile.mkdtemp(prefix="lab-scripts-"))
-        self.addCleanup(shutil.rmtree, self.folder)
-
-    def enter(self) -> None:
-        """From now on to the end of the test paths are taken from the folder."""
-        self.addCleanup(os.chdir, os.getcwd())
-        os.chdir(self.folder)
-
-    def write(self, files: Mapping[str, Content]) -> None:
-        put(self.folder, files)
-
-
-class Explained(InFolder):
+class Explained(Room):
     """A test of what tools/explain says, in a folder from which paths are taken. It is a part of the test, to take less
     time."""
 
@@ -63,14 +40,6 @@ class Explained(InFolder):
         with contextlib.redirect_stderr(said):
             explain.main([lab(), str(status), *words])
         return said.getvalue().splitlines()
-
-
-def put(folder: pathlib.Path, files: Mapping[str, Content]) -> None:
-    """Writes files below a folder."""
-    for name, held in files.items():
-        path = folder / name
-        path.parent.mkdir(parents=True, exist_ok=True)
-        path.write_bytes(held if isinstance(held, bytes) else held.encode())
 
 
 def elf(flags: int = 0, segments: int = 1, **changes: int) -> bytes:

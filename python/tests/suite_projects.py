@@ -6,14 +6,11 @@ import re
 import shutil
 import subprocess
 import sys
-import tempfile
 import time
-import unittest
 from typing import Callable, Dict, List, Optional, Tuple
 
 from labtools.common.program import TOP
-from tests import tools
-
+from tests.commands import Room
 
 SUITE = str(TOP / "tools/suite")
 EXPECT = str(TOP / "tools/expect")
@@ -96,38 +93,12 @@ def is_ended(process: int) -> bool:
     return True
 
 
-class Project(unittest.TestCase):
+class Project(Room):
     """Tests in a project of their own, a new folder."""
-
-    maxDiff = None
-
-    def setUp(self) -> None:
-        room = tempfile.TemporaryDirectory(prefix="lab-suite-")
-        self.addCleanup(room.cleanup)
-        self.folder = pathlib.Path(room.name)
-        self.environment: Dict[str, str] = dict(os.environ)
-
-    def write(self, path: str, text: str) -> None:
-        """Writes a file of the project."""
-        file = self.folder / path
-        file.parent.mkdir(parents=True, exist_ok=True)
-        file.write_text(text, encoding="utf-8")
-
-    def read(self, path: str) -> str:
-        return (self.folder / path).read_text(encoding="utf-8")
-
-    def call(self, *words: str) -> "subprocess.CompletedProcess[str]":
-        """Calls a program in the project's folder."""
-        if tools.module_of(words[0]):
-            return tools.call(*words, cwd=self.folder, env=self.environment)
-        pipe = subprocess.PIPE
-        return subprocess.run(
-            words, cwd=self.folder, env=self.environment, stdout=pipe, stderr=pipe, text=True, timeout=300
-        )
 
     def expect(self, words: List[str], status: int, lines: str, told: Optional[str] = None) -> None:
         """Calls tools/suite, which has to end with this status and to print these lines."""
-        ran = self.call(SUITE, *words)
+        ran = self.ran(SUITE, *words)
         self.assertEqual((without_seconds(ran.stdout), ran.returncode), (lines, status), ran.stderr)
         if told is not None:
             self.assertEqual(ran.stderr, told)
@@ -138,9 +109,8 @@ class WithStandIn(Project):
 
     def setUp(self) -> None:
         super().setUp()
-        self.write("stand_in", STAND_IN)
-        (self.folder / "stand_in").chmod(0o755)
-        self.environment["LAB"] = str(self.folder / "stand_in")
+        self.write("stand_in", STAND_IN, 0o755)
+        self.environment["LAB"] = str(self.room / "stand_in")
 
     def make(self, script: str, kept: Optional[str], prints: str, says: str = "", status: int = 0) -> None:
         """Makes a test whose log is this text and whose run prints that."""
@@ -162,20 +132,20 @@ class Bearing(WithStandIn):
 
     def setUp(self) -> None:
         super().setUp()
-        self.room = self.folder / "room"
-        self.room.mkdir()
-        self.environment["TMPDIR"] = str(self.room)
+        self.temporary = self.room / "room"
+        self.temporary.mkdir()
+        self.environment["TMPDIR"] = str(self.temporary)
 
     def begin(self, *words: str) -> "subprocess.Popen[bytes]":
         """Begins a suite, which ignores no signal, though this program may have been started so."""
         words = (sys.executable, "-c", HEED, sys.executable, SUITE, *words)
-        return subprocess.Popen(words, cwd=self.folder, env=self.environment, stdout=subprocess.DEVNULL)
+        return subprocess.Popen(words, cwd=self.room, env=self.environment, stdout=subprocess.DEVNULL)
 
     def used(self, *words: str) -> Tuple[int, float]:
         """How many MB a suite takes, or one of the programs that it starts: the most of any; and the seconds of the
         processor. What it prints is written down in `printed`. A small program starts it, since a program begins with
         the memory of what has started it."""
-        memory, seconds = self.call(sys.executable, "-c", MEASURE, sys.executable, SUITE, *words).stdout.split()
+        memory, seconds = self.ran(sys.executable, "-c", MEASURE, sys.executable, SUITE, *words).stdout.split()
         return int(memory), float(seconds)
 
     def errors(self, names: Dict[str, str], *words: str) -> None:
@@ -189,4 +159,4 @@ class WithLab(Project):
 
     def setUp(self) -> None:
         super().setUp()
-        shutil.copytree(TOP / "demo", self.folder / "demo", ignore=shutil.ignore_patterns("*.snap", "*.sums"))
+        shutil.copytree(TOP / "demo", self.room / "demo", ignore=shutil.ignore_patterns("*.snap", "*.sums"))

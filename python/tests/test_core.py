@@ -11,16 +11,18 @@ import resource
 import shutil
 import subprocess
 import unittest
-from typing import Any, Callable, Dict, List, Tuple
+from typing import Any, Callable, Dict, List, Sequence, Tuple
 from unittest import mock
 
+from labdev import cut_labs
 from labdev.pythons import with_pyelftools
 from labtools import core
 from labtools.boards import snapshot
 from labtools.common.program import TOP
-from tests import tools
 from tests.test_where import DATA, LAB, InRoom
 
+# A core, its ELF file, and a thread.
+Board = Tuple[str, str, int]
 
 GDB = next(filter(shutil.which, ("gdb-multiarch", "riscv64-unknown-elf-gdb", "riscv32-unknown-elf-gdb")), "")
 
@@ -107,10 +109,10 @@ print(json.dumps([file["e_type"], file["e_machine"], file.elfclass, file.little_
 """
 
 
-class Room(InRoom):
+class Cores(InRoom):
     def call(self, *words: str, **how: Any) -> Tuple[int, str, str]:
         """Returns how tools/core ends, and what it prints."""
-        ran = tools.call(TOP / "tools/core", *words, cwd=self.room, **how)
+        ran = self.ran(TOP / "tools/core", *words, **how)
         return ran.returncode, ran.stdout, ran.stderr
 
     def core(self, *words: str) -> List[str]:
@@ -118,17 +120,13 @@ class Room(InRoom):
         self.assertEqual((status, told), (0, ""))
         return printed.splitlines()
 
-    def refused(self, *words: str, **how: Any) -> str:
-        status, printed, told = self.call(*words, **how)
-        self.assertEqual((status, printed), (1, ""))
-        return told
-
     def lab(self, script: str, *more: str) -> str:
         """Runs a script of data/where with more lines at its end, and returns the log."""
-        lines = (self.room / script).read_text().split("quit\n")[0]
+        lines = self.read(script).split("quit\n")[0]
         self.write("more.resc", "\n".join([lines, *more, ""]))
-        command = [LAB, "run", "more.resc"]
-        return subprocess.run(command, cwd=self.room, stdout=subprocess.PIPE, text=True, check=True).stdout
+        ran = self.ran(LAB, "run", "more.resc")
+        self.assertEqual(ran.returncode, 0, ran.stdout)
+        return ran.stdout
 
     def held(self, folder: str = ".") -> Dict[str, bytes]:
         """Returns the files below a folder."""
@@ -137,78 +135,77 @@ class Room(InRoom):
 
 
 @unittest.skipUnless(GDB, "what gdb says of core files, without gdb-multiarch")
-class Debugger(Room):
-    def gdb(self, core_of_board: Tuple[str, str, int], *commands: str) -> List[str]:
-        """Returns the lines that gdb prints for commands in a thread, with one blank for each stretch of them."""
-        name, elf, thread = core_of_board
-        asked = [f"thread {thread}", "echo \\n--\\n", *commands]
-        words = [GDB, "-q", "-nx", "-batch", *(word for it in asked for word in ("-ex", it)), elf, f"cores/{name}"]
-        ran = subprocess.run(words, cwd=self.room, text=True, stdout=subprocess.PIPE, stderr=subprocess.STDOUT)
-        return [" ".join(line.split()) for line in ran.stdout.partition("\n--\n")[2].splitlines()]
+class Debugger(Cores):
+    def gdb(self, asked: Sequence[Tuple[Board, str]]) -> List[List[str]]:
+        """Returns the lines that gdb prints for each command in a thread of a core, with one blank for each stretch of
+        them. One gdb opens all."""
+        words, board = [GDB, "-q", "-nx", "-batch"], None
+        for of, command in asked:
+            if of != board:
+                core, elf, thread = board = of
+                words += [it for line in (f"file {elf}", f"core-file cores/{core}") for it in ("-ex", line)]
+                words += ["-ex", f"thread {thread}"]
+            words += [it for line in ("echo \\n<<\\n", command, "echo \\n>>\\n") for it in ("-ex", line)]
+        printed = self.ran(*words, stderr=subprocess.STDOUT).stdout
+        found = re.findall(r"\n<<\n(.*?)\n+>>\n", printed, re.DOTALL)
+        self.assertEqual(len(found), len(asked), printed)
+        return [[" ".join(line.split()) for line in text.splitlines()] for text in found]
 
-    def test_variables_registers_csrs_and_memory_are_those_of_the_boards(self) -> None:
+    def test_variables_registers_csrs_memory_and_stacks_are_those_of_the_boards(self) -> None:
         for script in "work.resc", "ask.resc":
             self.core(script, "cores")
-        for board in dict.fromkeys(it[0] for it in SHOWN):
-            rows = [it[1:] for it in SHOWN if it[0] == board]
-            commands = [word for command, _ in rows for word in (command, "echo \\n==\\n")]
-            text = "\n".join(self.gdb(board, *commands))
-            for (command, wanted), printed in zip(rows, re.split(r"\n*==\n*", text)):
-                with self.subTest(board=board, command=command):
-                    self.assertIn(re.sub(r"^\$1", "$", wanted), re.sub(r"^\$\d+", "$", printed))
-
-    def test_the_call_stack_is_that_of_the_lines_of_the_source(self) -> None:
-        for script in "work.resc", "ask.resc":
-            self.core(script, "cores")
-        for board, wanted in STACKS:
+        asked = [(board, command) for board, command, _ in SHOWN] + [(board, "bt") for board, _ in STACKS]
+        told = self.gdb(asked)
+        for (board, command, wanted), lines in zip(SHOWN, told):
+            with self.subTest(board=board, command=command):
+                self.assertIn(re.sub(r"^\$1", "$", wanted), re.sub(r"^\$\d+", "$", "\n".join(lines)))
+        for (board, calls), lines in zip(STACKS, told[len(SHOWN) :]):
             with self.subTest(board=board):
-                lines = self.gdb(board, "bt")
-                self.assertEqual(lines[: len(wanted)], [f"#{at} {line}" for at, line in enumerate(wanted)])
+                self.assertEqual(lines[: len(calls)], [f"#{at} {line}" for at, line in enumerate(calls)])
 
     def test_harts_are_threads(self) -> None:
         self.core("work.resc", "cores")
-        first, *rest = self.gdb(WORKER, "info threads")
+        ((first, *rest),) = self.gdb([(WORKER, "info threads")])
         self.assertRegex(rest[0], r"^\* 1 .* serve \(\) at ./work.c:14$")
         self.assertRegex(rest[1], r"^2 .* 0x8000008a in wait_for_interrupt \(\) at ./hart.h:22$")
         self.assertEqual((first, len(rest)), ("Id Target Id Frame", 2))
 
     def test_zeros_of_a_board_are_shown_where_its_file_has_other_bytes(self) -> None:
         """The first page of the firmware was made zero, so that the snapshot has no such page."""
-        (self.room / "zeros").write_bytes(bytes(4096))
         made = 'mach create "m"\nmachine LoadPlatformDescription @board.repl\nsysbus LoadELF @fault.elf\n'
-        self.write("zeros.resc", f"{made}sysbus LoadBinary @zeros 0x80000000\n")
+        self.put({"zeros": bytes(4096), "zeros.resc": f"{made}sysbus LoadBinary @zeros 0x80000000\n"})
         self.core("zeros.resc", "cores")
-        lines = self.gdb(("m.core", "fault.elf", 1), "x/2xw 0x80000000")
+        (lines,) = self.gdb([(("m.core", "fault.elf", 1), "x/2xw 0x80000000")])
         self.assertEqual(lines, ["0x80000000 <_start>: 0x00000000 0x00000000"])
 
     def test_each_printed_line_opens_a_core_with_all_its_files(self) -> None:
         """A second file is loaded where the first one was, so that its names alone can tell it."""
         made = 'mach create "m"\nmachine LoadPlatformDescription @board.repl\n'
-        (self.room / "-l.elf").write_bytes((DATA / "ask.elf").read_bytes())
+        self.write("-l.elf", (DATA / "ask.elf").read_bytes())
         self.write("two.resc", f"{made}sysbus LoadELF @-l.elf\nsysbus LoadELF @fault.elf\nsysbus LoadELF @-l.elf\n")
         lines = self.core("two.resc", "its cores")
         self.assertEqual(lines[:2], ["at 0.000000", "m: 1 hart"])
-        command = f"{lines[2]} -q -nx -batch -ex 'info address ask' -ex 'info address half_of'"
-        ran = subprocess.run(command, cwd=self.room, shell=True, capture_output=True, text=True)
-        self.assertIn('Symbol "ask" is a function at address ', ran.stdout)
-        self.assertIn('Symbol "half_of" is a function at address 0x80000038.\n', ran.stdout)
+        printed = self.ran(
+            "sh", "-c", f"{lines[2]} -q -nx -batch -ex 'info address ask' -ex 'info address half_of'"
+        ).stdout
+        self.assertIn('Symbol "ask" is a function at address ', printed)
+        self.assertIn('Symbol "half_of" is a function at address 0x80000038.\n', printed)
 
 
-class Files(Room):
+class Files(Cores):
     """What is written, as other programs than gdb read it."""
 
-    def read(self, name: str) -> List[Any]:
+    def parts(self, name: str) -> List[Any]:
         python = with_pyelftools()
         if not python:
             self.skipTest("what is in core files, without pyelftools")
-        ran = subprocess.run([python, "-c", READER, name], cwd=self.room, stdout=subprocess.PIPE, check=True)
-        read: List[Any] = json.loads(ran.stdout)
+        read: List[Any] = json.loads(self.ran(python, "-c", READER, name).stdout)
         return read
 
-    def memory(self, name: str) -> Dict[int, bytes]:
+    def memory(self, segments: List[Any]) -> Dict[int, bytes]:
         """Returns the memories of a core by their addresses, those that lie one behind the other as one."""
         memories: Dict[int, bytes] = {}
-        for kind, _, address, in_file, size, data in self.read(name)[5]:
+        for kind, _, address, in_file, size, data in segments:
             if kind == "PT_LOAD":
                 self.assertEqual((in_file, len(data)), (size, 2 * size))
                 below = next((it for it, held in memories.items() if it + len(held) == address), address)
@@ -217,7 +214,7 @@ class Files(Room):
 
     def test_a_core_has_the_form_of_one_and_its_notes(self) -> None:
         self.core("work.resc", "cores")
-        kind, machine, width, is_little, flags, segments, notes = self.read("cores/worker.core")
+        kind, machine, width, is_little, flags, segments, notes = self.parts("cores/worker.core")
         self.assertEqual((kind, machine, width, is_little, flags), ("ET_CORE", "EM_RISCV", 32, True, 1))
         self.assertEqual([it[0] for it in segments].count("PT_NOTE"), 1)
         size = (self.room / "cores/worker.core").stat().st_size
@@ -232,10 +229,7 @@ class Files(Room):
             self.skipTest("what readelf says of core files, without readelf")
         self.core("work.resc", "cores")
         for name in self.held("cores"):
-            words = ["readelf", "--all", "--wide", name]
-            ran = subprocess.run(
-                words, cwd=self.room, env={**os.environ, "LC_ALL": "C"}, capture_output=True, text=True
-            )
+            ran = self.ran("readelf", "--all", "--wide", name, env={**os.environ, "LC_ALL": "C"})
             self.assertEqual((ran.returncode, ran.stderr), (0, ""))
             self.assertIn("CORE (Core file)", ran.stdout)
             self.assertNotRegex(ran.stdout, "(?i)warning|error|corrupt")
@@ -244,41 +238,37 @@ class Files(Room):
         """Each 64th word of the memory, and the first and the last ones."""
         places = sorted({*range(0, 256, 4), *range(0, 0x10000, 256), *range(0xFF00, 0x10000, 4)})
         reads = [f"sysbus ReadDoubleWord 0x{0x80000000 + at:X}" for at in places]
-        shown = [
-            int(it, 16) for it in re.findall("(?m)^0x([0-9a-f]{8})$", self.lab("ask.resc", "mach set asker", *reads))
-        ]
+        log = self.lab("ask.resc", "mach set asker", *reads)
+        shown = [int(it, 16) for it in re.findall("(?m)^0x([0-9a-f]{8})$", log)]
         self.assertEqual(len(shown), len(places))
         self.core("ask.resc", "cores")
-        memories = self.memory("cores/asker.core")
+        memories = self.memory(self.parts("cores/asker.core")[5])
         self.assertEqual({address: len(held) for address, held in memories.items()}, {0x80000000: 0x10000})
         words = [int.from_bytes(memories[0x80000000][at : at + 4], "little") for at in places]
         self.assertEqual(words, shown)
 
     def test_large_memories_that_are_mostly_zero_take_little_room(self) -> None:
         """Of 16 MiB and 4 KiB, three pages have a byte that is not 0."""
-        self.write("small.repl", SMALL)
-        self.write("small.resc", COUNTING)
+        self.put({"small.repl": SMALL, "small.resc": COUNTING})
         lines = self.core("small.resc", "cores")
         self.assertEqual(lines[0], "at 0.000004")
         self.assertEqual(lines[-1], "bare: it has no platform, so no core is written")
         self.assertEqual(list(self.held("cores")), ["cores/small.core"])
         self.assertLess((self.room / "cores/small.core").stat().st_size, 2**17)
-        memories = self.memory("cores/small.core")
+        _, _, _, _, flags, segments, _ = self.parts("cores/small.core")
         program = "930250007390 02b8 7390 0234 6f000000"
         wanted = {0x1000: bytes(0xFFC) + bytes.fromhex("f0debc9a"), 0x80000000: bytes.fromhex(program)}
         wanted[0x80000000] = wanted[0x80000000].ljust(0xFFFFFC, b"\0") + bytes.fromhex("78563412")
-        self.assertTrue(memories == wanted)
-        self.assertEqual(self.read("cores/small.core")[4], 0, "no compressed instructions")
+        self.assertTrue(self.memory(segments) == wanted)
+        self.assertEqual(flags, 0, "no compressed instructions")
 
     @unittest.skipUnless(GDB, "the upper halves of counters, without gdb-multiarch")
     def test_counters_have_two_halves_and_misa_the_letters(self) -> None:
         """mcycle counts the first instruction, and the two after the one that sets its upper half."""
-        self.write("small.repl", SMALL)
-        self.write("small.resc", COUNTING)
+        self.put({"small.repl": SMALL, "small.resc": COUNTING})
         self.core("small.resc", "cores")
         shown = "output/x {$misa, $mcycle, $mcycleh, $cycleh, $minstret, $minstreth, $mscratch, $pc}"
-        words = [GDB, "-q", "-nx", "-batch", "-ex", "echo --", "-ex", shown, "-c", "cores/small.core"]
-        ran = subprocess.run(words, cwd=self.room, stdout=subprocess.PIPE, stderr=subprocess.DEVNULL, text=True)
+        ran = self.ran(GDB, "-q", "-nx", "-batch", "-ex", "echo --", "-ex", shown, "-c", "cores/small.core")
         wanted = "{0x40001101, 0x3, 0x5, 0x5, 0x4, 0x0, 0x5, 0x8000000c}"
         self.assertEqual(ran.stdout.partition("--")[2], wanted)
 
@@ -296,10 +286,14 @@ class Files(Room):
         self.assertIn(pc + (0x8000003C).to_bytes(4, "little"), (self.room / "cores/asker.core").read_bytes())
 
 
-class Faults(Room):
+class Faults(Cores):
     def setUp(self) -> None:
         super().setUp()
         self.lab("ask.resc", "Save @kept")
+
+    def refuses(self, line: str, *words: str, **how: Any) -> None:
+        """The tool prints this line alone, and ends with 1."""
+        self.assertEqual(self.call(*words, **how), (1, "", f"tools/core: {line}\n"))
 
     def test_what_is_no_core_of_a_board_stays_and_nothing_is_written(self) -> None:
         self.core("kept", "cores")
@@ -319,31 +313,21 @@ class Faults(Room):
         for kind, make in makers.items():
             with self.subTest(kind=kind):
                 make(path)
-                before = os.lstat(path), self.held("others")
-                told = self.refused("kept", "others")
-                after = os.lstat(path), self.held("others")
-                line = "tools/core: others/answerer.core: it is not a core of a board, and is left alone\n"
-                self.assertEqual((told, after[1], after[0].st_ino), (line, before[1], before[0].st_ino))
+                before = os.lstat(path).st_ino, self.held("others")
+                self.refuses("others/answerer.core: it is not a core of a board, and is left alone", "kept", "others")
+                self.assertEqual((os.lstat(path).st_ino, self.held("others")), before)
                 self.assertEqual(os.listdir(cores), ["answerer.core"])
                 path.rmdir() if path.is_dir() else path.unlink()
-
-    def test_a_folder_that_is_none_and_one_that_cannot_be_made(self) -> None:
-        self.write("file", "mine")
-        self.assertEqual(self.refused("none.resc", "file"), "tools/core: file: it is not a folder\n")
-        self.assertEqual(self.refused("kept", "no/cores"), "tools/core: no/cores: No such file or directory\n")
-        self.assertEqual(self.refused("kept", "file/cores"), "tools/core: file/cores: Not a directory\n")
-        self.assertEqual((self.room / "file").read_text(), "mine")
 
     def test_where_the_disk_is_full_the_folder_is_as_before(self) -> None:
         def limit() -> None:
             resource.setrlimit(resource.RLIMIT_FSIZE, (32768, 32768))
 
-        line = "tools/core: cores: File too large\n"
-        self.assertEqual(self.refused("kept", "cores", before=limit), line)
+        self.refuses("cores: File too large", "kept", "cores", before=limit)
         self.assertFalse((self.room / "cores").exists())
         self.core("--at", "0.0005", "ask.resc", "cores")
         before = self.held()
-        self.assertEqual(self.refused("kept", "cores", before=limit), line)
+        self.refuses("cores: File too large", "kept", "cores", before=limit)
         self.assertEqual(self.held(), before)
         self.assertEqual(len(os.listdir(self.room / "cores")), 2)
 
@@ -356,23 +340,23 @@ class Faults(Room):
 
     def test_names_that_lead_out_of_the_folder_or_are_twice_there(self) -> None:
         """No lab is there to refuse such a snapshot."""
-        kept = (self.room / "kept").read_bytes()
-        before = self.held()
-        for old, new, name in (b"asker", b"../up", "../up"), (b"answerer", b"\x1b[2Jmine", "\\x1b[2Jmine"):
-            (self.room / "bad").write_bytes(kept.replace(old, new))
-            told = self.refused("bad", "cores", env={**os.environ, "LAB": "/none/lab"})
-            self.assertEqual(told, f"tools/core: bad: no snapshot of lab: {name} is not the name of a board\n")
-        twice = kept.replace(b"\x08" + bytes(7) + b"answerer", b"\x05" + bytes(7) + b"asker")
-        (self.room / "bad").write_bytes(twice)
-        told = self.refused("bad", "cores", env={**os.environ, "LAB": "/none/lab"})
-        self.assertEqual(told, "tools/core: bad: no snapshot of lab: two boards are asker\n")
+        kept, before = (self.room / "kept").read_bytes(), self.held()
+        asker, answerer = (bytes([len(name)]) + bytes(7) + name for name in (b"asker", b"answerer"))
+        for old, new, said in (
+            (b"asker", b"../up", "../up is not the name of a board"),
+            (b"answerer", b"\x1b[2Jmine", "\\x1b[2Jmine is not the name of a board"),
+            (answerer, asker, "two boards are asker"),
+        ):
+            self.write("bad", kept.replace(old, new))
+            env = {**os.environ, "LAB": "/none/lab"}
+            self.refuses(f"bad: no snapshot of lab: {said}", "bad", "cores", env=env)
         (self.room / "bad").unlink()
         self.assertEqual(self.held(), before)
 
     def test_a_damaged_snapshot_is_refused_or_has_cores(self) -> None:
         kept = (self.room / "kept").read_bytes()
         _, reader = snapshot.read(kept)
-        pages = [at for at, path, _ in reader.seen if path.endswith(".used")]
+        pages = cut_labs.pages_in(reader)
         places = [at for at in range(8, len(kept)) if not any(page <= at < page + snapshot.PAGE for page in pages)]
         chance = random.Random(1)
         refused = 0
@@ -394,16 +378,24 @@ class Faults(Room):
         line = "tools/core: [Errno 28] No space left on device\n"
         self.assertEqual((status, told, len(self.held("cores"))), (1, line, 2))
 
-    def test_what_cannot_be_read_or_run(self) -> None:
-        self.assertEqual(self.refused("none.resc", "cores"), "tools/core: none.resc: No such file or directory\n")
-        self.write("bad.resc", "mach create\ncpu Wrong\n")
-        told = self.refused("bad.resc", "cores")
-        self.assertEqual(told, "tools/core: bad.resc: lab refused bad.resc:2: S1 unknown command\n")
-        (self.room / "cut").write_bytes((self.room / "kept").read_bytes()[:-1])
-        self.assertIn("tools/core: cut: no snapshot of lab: ends within a value", self.refused("cut", "cores"))
-        told = self.refused("--at", "0.002", "ask.resc", "cores")
-        self.assertEqual(told, "tools/core: ask.resc: the script ends at 0.001000\n")
+    def test_what_cannot_be_read_run_or_made(self) -> None:
+        self.put({"file": "mine", "bad.resc": "mach create\ncpu Wrong\n"})
+        self.write("cut", (self.room / "kept").read_bytes()[:-1])
+        for words, line in (
+            ("none.resc file", "file: it is not a folder"),
+            ("kept no/cores", "no/cores: No such file or directory"),
+            ("kept file/cores", "file/cores: Not a directory"),
+            ("none.resc cores", "none.resc: No such file or directory"),
+            ("bad.resc cores", "bad.resc: lab refused bad.resc:2: S1 unknown command"),
+            ("--at 0.002 ask.resc cores", "ask.resc: the script ends at 0.001000"),
+        ):
+            with self.subTest(words=words):
+                self.refuses(line, *words.split())
+        status, _, told = self.call("cut", "cores")
+        self.assertEqual(status, 1)
+        self.assertIn("tools/core: cut: no snapshot of lab: ends within a value", told)
         self.assertFalse((self.room / "cores").exists())
+        self.assertEqual(self.read("file"), "mine")
 
     def test_words_that_are_wrong(self) -> None:
         for words in "", "kept", "kept cores more", "--at soon kept cores":

@@ -1,12 +1,10 @@
 """Tries what tools/crates prints, on crates of a few lines. The layers and the tables were written down by hand."""
 import contextlib
 import io
-import pathlib
-import tempfile
-import unittest
 from typing import List
 
 from labdev import crates
+from tests.commands import Room
 
 LIST = """# NAME: the libraries that it uses.
 
@@ -28,40 +26,40 @@ SOURCES = {
 HEADING = ["| Layer | Crate | What it is | Uses |", "|---|---|---|---|"]
 
 
-class Crates(unittest.TestCase):
+# What is printed: the program's crates, a longest way down, and tables of the program's crates and of the others.
+PRINTED = {
+    "": [" 3  lab_cli", " 2  middle", " 1  low"],
+    "--chain": ["lab_cli > middle > low"],
+    "--heads": [
+        *HEADING,
+        "| 3 | `lab_cli` | The program. | `low`, `middle` |",
+        "| 2 | `middle` | A middle \\| a half of `low`. | `low` |",
+        "| 1 | `low` | What is 0.5 of all. | none |",
+    ],
+    "--others": [
+        *HEADING,
+        "| 3 | `middle_laws` | Laws: each is a contract. | `middle` |",
+        "| 2 | `other` | Another one. | `low` |",
+    ],
+}
+
+
+class Crates(Room):
     def setUp(self) -> None:
-        room = tempfile.TemporaryDirectory(prefix="lab-crates-")
-        self.addCleanup(room.cleanup)
-        self.folder = pathlib.Path(room.name)
-        for name, source in SOURCES.items():
-            (self.folder / name).parent.mkdir(parents=True)
-            (self.folder / name).write_text(source, encoding="utf-8")
+        super().setUp()
+        self.put(SOURCES)
 
     def printed(self, *words: str) -> List[str]:
-        return crates.printed(list(words), crates.uses_of(LIST), self.folder)
+        return crates.printed(list(words), crates.uses_of(LIST), self.room)
 
-    def test_layers_and_chains_are_those_of_the_program(self) -> None:
-        self.assertEqual(self.printed(), [" 3  lab_cli", " 2  middle", " 1  low"])
-        self.assertEqual(self.printed("--chain"), ["lab_cli > middle > low"])
-
-    def test_the_table_has_a_row_for_each_crate_of_the_program(self) -> None:
-        rows = [
-            "| 3 | `lab_cli` | The program. | `low`, `middle` |",
-            "| 2 | `middle` | A middle \\| a half of `low`. | `low` |",
-            "| 1 | `low` | What is 0.5 of all. | none |",
-        ]
-        self.assertEqual(self.printed("--heads"), HEADING + rows)
-
-    def test_the_other_table_has_a_row_for_each_other_crate(self) -> None:
-        rows = [
-            "| 3 | `middle_laws` | Laws: each is a contract. | `middle` |",
-            "| 2 | `other` | Another one. | `low` |",
-        ]
-        self.assertEqual(self.printed("--others"), HEADING + rows)
+    def test_layers_a_chain_and_tables_are_printed(self) -> None:
+        for words, lines in PRINTED.items():
+            with self.subTest(words=words):
+                self.assertEqual(self.printed(*words.split()), lines)
 
     def test_a_crate_that_does_not_say_what_it_is_ends_the_script(self) -> None:
         for source in "pub mod low;\n", "//!\n//! Late.\n", "//! No sentence\n":
-            (self.folder / "low/src/lib.rt").write_text(source, encoding="utf-8")
+            self.write("low/src/lib.rt", source)
             told = io.StringIO()
             with self.subTest(source=source), contextlib.redirect_stderr(told):
                 with self.assertRaises(SystemExit) as ended:

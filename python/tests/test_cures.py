@@ -10,11 +10,9 @@ import subprocess
 from typing import List, Tuple
 
 from labtools.common.program import TOP
-from labtools.scripts import cures
-from labtools.scripts import parts
-from labtools.scripts import reads
-from tests.scripts import CPU, RAM, UART, Content, Explained, Files, elf, lab
-
+from labtools.scripts import cures, parts, reads
+from tests.commands import Content
+from tests.scripts import CPU, RAM, UART, Explained, Files, elf, lab
 
 BARE = RAM + CPU
 BOARD = f"{RAM}{UART}can0: CAN.SJA1000 @ sysbus 0x10001000\n{CPU}"
@@ -197,14 +195,14 @@ class Refused(Explained):
 
     def setUp(self) -> None:
         super().setUp()
-        self.write({"board.repl": BOARD, "text": "Hello there\n", "text.hex": ":00000001FF\n"})
-        self.write({"high.elf": elf(at62=0x8000, at64=0xFFFC, at72=8)})
-        self.write({"keep.resc": f"mach create old\n{EQUIP}Save @keep\n"})
+        self.put({"board.repl": BOARD, "text": "Hello there\n", "text.hex": ":00000001FF\n"})
+        self.put({"high.elf": elf(at62=0x8000, at64=0xFFFC, at72=8)})
+        self.put({"keep.resc": f"mach create old\n{EQUIP}Save @keep\n"})
         subprocess.run([lab(), "run", "keep.resc"], check=True)
 
     def refused(self, files: Files) -> Tuple[str, List[str]]:
         """The cause by which the program refuses a script, and what is said of it."""
-        self.write(files)
+        self.put(files)
         said = self.explained(3, "run", "s.resc")
         found = re.fullmatch(r"error: \S+:\d+: (\S+ .*)", self.printed.splitlines()[-1])
         assert found, self.printed
@@ -281,6 +279,6 @@ class Mistakes(Refused):
 
     def test_what_a_platform_takes_from_a_pipe_is_not_read_again(self) -> None:
         os.mkfifo("pipe.repl")
-        self.write({"s.resc": "mach create\nmachine LoadPlatformDescription @pipe.repl\nshowAnalyzer u\n"})
+        self.put({"s.resc": "mach create\nmachine LoadPlatformDescription @pipe.repl\nshowAnalyzer u\n"})
         board = reads.Board("", True, files=[reads.FileRead("pipe.repl", "platform", True, ())])
         self.assertEqual(parts.Parts(lab()).of(board), [])

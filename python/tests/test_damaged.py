@@ -17,17 +17,16 @@ import sys
 import tempfile
 import traceback
 import types
-import unittest
 from typing import Any, Callable, Dict, Iterator, List
 from unittest import mock
 
+from labdev import cut_labs
 from labdev.pythons import with_pyelftools
-from labtools import snapshot as snapshot_tool
-from labtools import where as where_tool
+from labtools import snapshot as snapshot_tool, where as where_tool
 from labtools.boards import snapshot
 from labtools.common.program import TOP, path_of_program
 from labtools.elf.elf import is_readable
-
+from tests.commands import Room
 
 DATA = TOP / "python/tests/data/where"
 
@@ -95,7 +94,7 @@ def damaged_snapshots(whole: List[bytes], count: int, chance: random.Random) -> 
     """Yields damaged snapshots. Pages of memory, in which a change is no damage, stay as they are."""
     for data in whole:
         _, reader = snapshot.read(data)
-        pages = [at for at, path, _ in reader.seen if path.endswith(".used")]
+        pages = cut_labs.pages_in(reader)
         places = [at for at in range(len(data)) if not any(page <= at < page + snapshot.PAGE for page in pages)]
         for number in range(count // 2):
             # one of four in a count, of which its lowest byte tells most
@@ -217,15 +216,13 @@ def kept_room() -> str:
     return folder
 
 
-class InRoom(unittest.TestCase):
+class InRoom(Room):
     """In a folder with what data/where has, and a snapshot of each of its laboratories."""
 
     def setUp(self) -> None:
-        room = tempfile.TemporaryDirectory(prefix="lab-tests-damaged-")
-        self.addCleanup(room.cleanup)
-        self.addCleanup(os.chdir, os.getcwd())
-        shutil.copytree(DATA, room.name, dirs_exist_ok=True)
-        os.chdir(room.name)
+        super().setUp()
+        shutil.copytree(DATA, self.room, dirs_exist_ok=True)
+        self.enter()
         self.given = {"LAB": path_of_program()}
         setting = mock.patch.dict(os.environ, self.given)
         setting.start()

@@ -1,38 +1,34 @@
-"""Tries that what docs/ names stands in the sources: the contracts of docs/PROMISES.md, the wrong bodies of the page on
-tests, the files and crates of docs/ARCHITECTURE.md, the files of docs/DEFINITIONS.md and docs/INSIDE.md, the lemmas
-that are cited above their crate, and quoted lines. That a number which stands in several crates is one number. That the
-records of docs/decisions have their form, and their place in the index. And that lines of the crates have at most 120
-columns. It reads texts alone and needs no program."""
+"""Checks that docs/ agrees with the sources. The pages name only contracts, wrong bodies, files, crates and lemmas that
+exist, and quote only lines that stand there. A number that several crates have is the same in each. The records of
+docs/decisions have their form, and a place in the index. Lines of the crates have at most 120 columns. All this reads
+texts alone, and needs no program."""
 import collections
 import itertools
 import pathlib
 import re
-import subprocess
 import unittest
 from typing import Dict, Iterator, List, Set, Tuple
 
-from labdev.contracts import Crate, clauses_of, crates_below, named
+from labdev.contracts import clauses_of, crates_below, named
+from labdev.crates import printed, uses_of
 from labdev.recipes import all_documents
 from labdev.versions import items_of, split_changes
 from labtools.common.manual import rows_after
 from labtools.common.program import TOP
 
 NAME = re.compile(r"`((?:\w+::)?\w+)`")
-TESTING = "docs/TESTING.md"
-GUIDE = "docs/DEVELOPING.md"
-MEASURED = "docs/MEASURED.md"
 DECISIONS = "docs/decisions"
 # What gives no answer, and nothing is promised of it.
 NO_ANSWER = {"Gate::enter"}
-
-
-def crates() -> Dict[str, Crate]:
-    """Returns the crates of the repository, which are read once."""
-    return crates_below(TOP)
+CRATES = crates_below(TOP)
 
 
 def text_of(path: str) -> str:
     return (TOP / path).read_text(encoding="utf-8")
+
+
+PROMISES, TESTING = text_of("docs/PROMISES.md"), text_of("docs/TESTING.md")
+CONTRACTS = rows_after(PROMISES, "| Crate | Promise, in plain words | Contract |")
 
 
 def names_in(cell: str) -> List[str]:
@@ -41,7 +37,7 @@ def names_in(cell: str) -> List[str]:
 
 
 def is_defined(name: str) -> bool:
-    return any(name in crate.types or name in crate.definitions for crate in crates().values())
+    return any(name in crate.types or name in crate.definitions for crate in CRATES.values())
 
 
 def is_type(name: str) -> bool:
@@ -61,23 +57,23 @@ def wrong_contracts(crate: str, cell: str) -> List[str]:
     clause of a function before them."""
     wrong: List[str] = []
     clauses: Set[str] = set()
-    among = {crate, *names_in(cell)} & set(crates())
+    among = {crate, *names_in(cell)} & set(CRATES)
     for name in names_in(cell):
-        functions = [it for it in named(crates(), name) if it.crate in among]
-        if name in clauses or name in crates() or is_type(name):
+        functions = [it for it in named(CRATES, name) if it.crate in among]
+        if name in clauses or name in CRATES or is_type(name):
             continue
-        clauses |= clauses_of(crates(), functions)
+        clauses |= clauses_of(CRATES, functions)
         wrong += [] if functions else [name]
     return wrong
 
 
 class Names(unittest.TestCase):
     def test_reads_functions_with_their_owners_and_clauses(self) -> None:
-        put = named(crates(), "DiskStore::put")
+        put = named(CRATES, "DiskStore::put")
         self.assertEqual([(it.crate, sorted(it.owners)) for it in put], [("lab_io", ["DiskStore", "Store"])])
-        self.assertTrue({"counted", "failed", "kept"} <= clauses_of(crates(), put))
-        self.assertNotIn("fails", clauses_of(crates(), put))
-        self.assertEqual([it.crate for it in named(crates(), "lab_encoding::load")], ["lab_encoding"])
+        self.assertTrue({"counted", "failed", "kept"} <= clauses_of(CRATES, put))
+        self.assertNotIn("fails", clauses_of(CRATES, put))
+        self.assertEqual([it.crate for it in named(CRATES, "lab_encoding::load")], ["lab_encoding"])
 
     def test_finds_what_is_not_there(self) -> None:
         cell = "`run_lab`, `complete`, `sideways`, `Lab::fly`"
@@ -88,52 +84,44 @@ class Names(unittest.TestCase):
 
 
 class Promises(unittest.TestCase):
-    @property
-    def document(self) -> str:
-        return text_of("docs/PROMISES.md")
-
     def test_each_contract_of_a_crate_is_there(self) -> None:
-        rows = list(filled(rows_after(self.document, "| Crate | Promise, in plain words | Contract |")))
-        self.assertGreater(len(rows), 100)
-        for crate, _, contract in rows:
+        self.assertGreater(len(CONTRACTS), 100)
+        for crate, _, contract in filled(CONTRACTS):
             with self.subTest(crate=crate, contract=contract):
                 self.assertTrue(names_in(contract))
                 self.assertEqual(wrong_contracts(crate.strip("`"), contract), [])
 
     def test_each_clause_of_the_program_is_there(self) -> None:
-        clauses = clauses_of(crates(), named(crates(), "run_lab"))
-        rows = rows_after(self.document, "| Clause of `run_lab` | Says |")
+        clauses = clauses_of(CRATES, named(CRATES, "run_lab"))
+        rows = rows_after(PROMISES, "| Clause of `run_lab` | Says |")
         told = {name for row in rows for name in names_in(row[0])}
         self.assertEqual(told, clauses)
 
     def test_each_refusal_is_a_clause_of_its_call(self) -> None:
-        rows = list(filled(rows_after(self.document, "| Call | Answer | Comes | Clause |")))
+        rows = list(filled(rows_after(PROMISES, "| Call | Answer | Comes | Clause |")))
         self.assertGreater(len(rows), 90)
         for call, answer, _, clause in rows[:-1]:
             with self.subTest(call=call, answer=answer):
-                functions = [it for name in names_in(call) for it in named(crates(), name)]
-                self.assertTrue(all(named(crates(), name) for name in names_in(call)))
-                self.assertEqual(set(names_in(clause)) - clauses_of(crates(), functions), set())
+                functions = [it for name in names_in(call) for it in named(CRATES, name)]
+                self.assertTrue(all(named(CRATES, name) for name in names_in(call)))
+                self.assertEqual(set(names_in(clause)) - clauses_of(CRATES, functions), set())
 
     def test_each_name_of_the_prose_is_there(self) -> None:
-        clauses = {clause for crate in crates().values() for it in crate.functions for clause in it.clauses}
-        for name in re.findall(r"`((?:[A-Z]\w*::)?[a-z0-9]\w*_\w+)`", self.document):
+        clauses = {clause for crate in CRATES.values() for it in crate.functions for clause in it.clauses}
+        for name in re.findall(r"`((?:[A-Z]\w*::)?[a-z0-9]\w*_\w+)`", PROMISES):
             with self.subTest(name=name):
                 kit = name in ("atomic_table", "crossbeam_queue")
-                there = kit or name in crates() or name in clauses or is_defined(name) or named(crates(), name)
+                there = kit or name in CRATES or name in clauses or is_defined(name) or named(CRATES, name)
                 self.assertTrue(there, name)
 
     def test_each_crate_of_the_program_has_a_row(self) -> None:
-        rows = rows_after(self.document, "| Crate | Promise, in plain words | Contract |")
-        told = {name for row in rows for name in names_in(row[0])}
-        tests = {name for name in crates() if name.endswith("_tests")}
-        self.assertEqual(told, set(crates()) - tests - {"sample_boards", "lab_speed"})
+        told = {name for row in CONTRACTS for name in names_in(row[0])}
+        tests = {name for name in CRATES if name.endswith("_tests")}
+        self.assertEqual(told, set(CRATES) - tests - {"sample_boards", "lab_speed"})
 
 
 class WrongBodies(unittest.TestCase):
-    @property
-    def rows(self) -> List[List[str]]:
-        return rows_after(text_of(TESTING), "| Body | Refused in | By |")
+    rows = rows_after(TESTING, "| Body | Refused in | By |")
 
     def test_each_edit_is_there(self) -> None:
         self.assertGreater(len(self.rows), 60)
@@ -144,8 +132,8 @@ class WrongBodies(unittest.TestCase):
                 among = names_in(where)
                 edits = names_in(means)
                 self.assertTrue(among and edits)
-                self.assertEqual([it for it in edits if not any(it in crates()[crate].edits for crate in among)], [])
-                self.assertEqual([it for it in among if not crates()[it].edits & set(edits)], [])
+                self.assertEqual([it for it in edits if not any(it in CRATES[crate].edits for crate in among)], [])
+                self.assertEqual([it for it in among if not CRATES[it].edits & set(edits)], [])
 
     def test_each_test_is_there(self) -> None:
         tests = paths = 0
@@ -153,7 +141,7 @@ class WrongBodies(unittest.TestCase):
             for test, crate in re.findall(r"`(\w+)`(?: \(|, `\w+` \()`(\w+_tests)`", means):
                 tests += 1
                 with self.subTest(body=body, test=test):
-                    self.assertIn(test, {it.name for it in crates()[crate].functions})
+                    self.assertIn(test, {it.name for it in CRATES[crate].functions})
             for path in re.findall(r"`((?:tools|python)/[\w/.]+)`", means):
                 paths += 1
                 self.assertTrue((TOP / path).exists(), path)
@@ -161,8 +149,8 @@ class WrongBodies(unittest.TestCase):
         self.assertGreater(paths, 0)
 
     def test_what_no_clause_refuses_is_shown_by_something(self) -> None:
-        tests = {it.name for name, crate in crates().items() if name.endswith("_tests") for it in crate.functions}
-        edits = {edit for crate in crates().values() for edit in crate.edits}
+        tests = {it.name for name, crate in CRATES.items() if name.endswith("_tests") for it in crate.functions}
+        edits = {edit for crate in CRATES.values() for edit in crate.edits}
         found = 0
         for body, where, means in self.rows:
             if "no clause" in means:
@@ -174,16 +162,14 @@ class WrongBodies(unittest.TestCase):
 
 
 class Laws(unittest.TestCase):
-    @property
-    def rows(self) -> List[List[str]]:
-        return rows_after(text_of(TESTING), "| Law | What its premises say | Where it is so |")
+    rows = rows_after(TESTING, "| Law | What its premises say | Where it is so |")
 
     def test_each_law_of_the_crates_of_laws_that_has_a_premise_is_there(self) -> None:
         laws = {name for row in self.rows for name in names_in(row[0])}
-        stated = {it.name for name in crates() if name.endswith("_laws") for it in crates()[name].functions}
+        stated = {it.name for name in CRATES if name.endswith("_laws") for it in CRATES[name].functions}
         # These two hold of every run.
         self.assertEqual(stated - laws, {"places_rise", "saves_are_kept"})
-        self.assertEqual([it for it in laws if not named(crates(), it)], [])
+        self.assertEqual([it for it in laws if not named(CRATES, it)], [])
 
     def test_each_case_is_there(self) -> None:
         paths = [path for row in self.rows for path in re.findall(r"`(cases/\w+\.case)`", row[2])]
@@ -193,11 +179,11 @@ class Laws(unittest.TestCase):
 
 class Unstated(unittest.TestCase):
     def test_functions_without_a_clause_are_those_of_the_table(self) -> None:
-        rows = rows_after(text_of(TESTING), "| Function | In | Why |")
+        rows = rows_after(TESTING, "| Function | In | Why |")
         told = {(crate, name) for row in rows for crate in names_in(row[1]) for name in names_in(row[0])}
-        promising = {it for it in crates() if not it.endswith("_tests")} - {"lab_speed", "sample_boards"}
+        promising = {it for it in CRATES if not it.endswith("_tests")} - {"lab_speed", "sample_boards"}
         found = set()
-        for function in [it for crate in promising for it in crates()[crate].functions]:
+        for function in [it for crate in promising for it in CRATES[crate].functions]:
             name = "::".join([*function.owners, function.name])
             if not function.is_stated and len(function.owners) < 2 and name not in NO_ANSWER:
                 found.add((function.crate, name))
@@ -212,7 +198,7 @@ def lemmas_cited_above() -> Dict[str, Set[str]]:
         if path.suffix not in (".antt", ".rt") or "out" in path.relative_to(TOP).parts[:3]:
             continue
         for crate, file in re.findall(r"\b(\w+)(?:\.|::)proofs(?:\.|::)(\w+)", path.read_text(encoding="utf-8")):
-            if crate in crates() and crate != own:
+            if crate in CRATES and crate != own:
                 cited[crate].add(file)
     return cited
 
@@ -220,7 +206,9 @@ def lemmas_cited_above() -> Dict[str, Set[str]]:
 class Guide(unittest.TestCase):
     def test_lemmas_cited_above_are_those_that_the_guide_allows(self) -> None:
         told: Dict[str, Set[str]] = collections.defaultdict(set)
-        for crate, files in re.findall(r"`(\w+)/proofs/(\w+`(?:(?:, | and )`[A-Z]\w+`)*)", text_of(GUIDE)):
+        for crate, files in re.findall(
+            r"`(\w+)/proofs/(\w+`(?:(?:, | and )`[A-Z]\w+`)*)", text_of("docs/DEVELOPING.md")
+        ):
             told[crate] |= set(re.findall(r"[A-Z]\w+", files))
         self.assertEqual(dict(lemmas_cited_above()), dict(told))
 
@@ -229,7 +217,7 @@ class Guide(unittest.TestCase):
         for path in all_documents():
             told = [it for it in numbers.findall(path.read_text(encoding="utf-8")) if it not in ("empty", "dirty")]
             with self.subTest(document=path.name):
-                self.assertTrue(not told or path == TOP / MEASURED, told)
+                self.assertTrue(not told or path == TOP / "docs/MEASURED.md", told)
 
 
 def missing_files(document: str) -> List[str]:
@@ -273,9 +261,7 @@ class Pictures(unittest.TestCase):
 
 
 class Architecture(unittest.TestCase):
-    @property
-    def document(self) -> str:
-        return text_of("docs/ARCHITECTURE.md")
+    document = text_of("docs/ARCHITECTURE.md")
 
     def test_each_file_is_there(self) -> None:
         self.assertEqual(missing_files("`board/specs/Slot.antt`, `Stretch.antt`, `Nowhere.antt`"), ["Nowhere.antt"])
@@ -286,15 +272,14 @@ class Architecture(unittest.TestCase):
 
     def test_the_tables_of_crates_are_those_of_the_sources(self) -> None:
         for option in "--heads", "--others":
-            command = [str(TOP / "tools/crates"), option]
-            said = subprocess.run(command, stdout=subprocess.PIPE, text=True, check=True)
+            lines = printed([option], uses_of(text_of("crates.txt")), TOP / "crates")
             with self.subTest(option=option):
-                shown = f"<!-- run tools/crates {option} -->\n\n{said.stdout}\n"
+                shown = "\n".join([f"<!-- run tools/crates {option} -->", "", *lines, "", ""])
                 self.assertTrue(shown in self.document, "docs/ARCHITECTURE.md has another table")
 
     def test_each_crate_has_one_row(self) -> None:
         told = re.findall(r"(?m)^\| \d+ \| `(\w+)` \|", self.document)
-        self.assertEqual(sorted(told), sorted(crates()))
+        self.assertEqual(sorted(told), sorted(CRATES))
 
 
 def constant(path: str) -> int:
@@ -362,14 +347,10 @@ class Links(unittest.TestCase):
 class Versions(unittest.TestCase):
     """What pages say of the version, and of what changed with it."""
 
-    @property
-    def version(self) -> str:
-        return text_of("VERSION").strip()
+    version = text_of("VERSION").strip()
 
-    def test_the_readme_describes_this_version(self) -> None:
+    def test_the_readme_and_the_wheel_that_is_installed_have_this_version(self) -> None:
         self.assertEqual(re.findall(r"\bversion (\d+\.\d+\.\d+)", text_of("README.md")), [self.version])
-
-    def test_the_wheel_that_is_installed_has_this_version(self) -> None:
         self.assertEqual(re.findall(r"\blab_emulator-(\d[\w.]*)-py3", text_of("docs/PROJECT.md")), [self.version])
 
     def test_the_changes_are_of_versions_that_fall_down_to_the_first(self) -> None:

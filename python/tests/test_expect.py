@@ -40,8 +40,7 @@ class Expect(Packaged):
     def test_a_device_and_a_folder_are_no_logs(self) -> None:
         for name in "/dev/zero", "/dev/full", "test":
             for words in (), ("--bless",):
-                said = f"expect: {name} is not a plain file"
-                self.wants(73, said, "timeout", "20", EXPECT, *words, "test/s.resc", name)
+                self.expect(73, f"expect: {name} is not a plain file", *words, "test/s.resc", name)
 
     def test_a_run_whose_finisher_fails_says_so_first(self) -> None:
         self.expect(0, "", "--bless", "test/s.resc", "test/log")

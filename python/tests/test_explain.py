@@ -12,7 +12,6 @@ from typing import List, Tuple
 from labtools.common.program import TOP
 from tests.scripts import CPU, RAM, UART, Explained, Files, elf, lab
 
-
 EXPLAIN = str(TOP / "tools" / "explain")
 
 MAKE = 'emulation CreateUARTHub "hub"\nmach create "m0"\nmachine LoadPlatformDescription @board.repl\n'
@@ -183,80 +182,80 @@ class Said(Explained):
 
     def setUp(self) -> None:
         super().setUp()
-        self.write({"board.repl": BOARD, "make.resc": MAKE})
+        self.put({"board.repl": BOARD, "make.resc": MAKE})
 
     def test_what_is_said(self) -> None:
         for files, status, words, wanted in SAID:
             with self.subTest(words=words, wanted=wanted[0]):
-                self.write(files)
+                self.put(files)
                 self.assertEqual(self.explained(status, *words.split()), wanted)
                 if words == "check s.resc":
                     self.assertEqual(self.explained(status, "run", "s.resc"), wanted)
 
     def test_the_line_is_told_first(self) -> None:
-        self.write({"a.resc": "Save @kept\n"})
+        self.put({"a.resc": "Save @kept\n"})
         self.explained(0, "run", "a.resc")
         for script, words, line in FIRST:
             with self.subTest(words=words, line=line):
-                self.write({"s.resc": script})
+                self.put({"s.resc": script})
                 self.assertEqual(self.explained(3, *words.split())[0], f"lab:   s.resc:{line}")
 
     def test_a_word_of_lab_alone_has_one_cure(self) -> None:
-        self.write({"s.resc": "include @make.resc\ncpu0 PC 0x80000000\n"})
+        self.put({"s.resc": "include @make.resc\ncpu0 PC 0x80000000\n"})
         self.assertEqual(len(self.explained(3, "run", "s.resc")), 3)
 
     def test_time_has_passed_before_load(self) -> None:
-        self.write({"s.resc": "start\nLoad @s.resc\n"})
+        self.put({"s.resc": "start\nLoad @s.resc\n"})
         self.assertIn("before each `mach create`", self.explained(3, "run", "s.resc")[1])
 
     def test_paths_that_no_file_can_have(self) -> None:
-        (self.folder / "self").symlink_to("self")
+        (self.room / "self").symlink_to("self")
         for path, state in (
             ("n" * 256, "cannot be read: File name too long"),
             ("s.resc/a.elf", "is not there"),
             ("self", "cannot be read: Too many levels of symbolic links"),
             ("a\0b", "is not there"),
         ):
-            self.write({"s.resc": f"include @{path}\n"})
+            self.put({"s.resc": f"include @{path}\n"})
             shown = path.replace("\0", "\\x00")
             wanted = [f"lab: {shown} {state}", f"lab:   s.resc:1: include @{shown}"]
             self.assertEqual(self.explained(4, "run", "s.resc"), wanted)
 
     @unittest.skipIf(os.geteuid() == 0, "a folder that may not be entered, as root, who may read all")
     def test_a_folder_that_may_not_be_entered(self) -> None:
-        self.write({"s.resc": "include @shut/a.resc\n", "shut/a.resc": ""})
-        (self.folder / "shut").chmod(0)
-        self.addCleanup((self.folder / "shut").chmod, 0o700)
+        self.put({"s.resc": "include @shut/a.resc\n", "shut/a.resc": ""})
+        (self.room / "shut").chmod(0)
+        self.addCleanup((self.room / "shut").chmod, 0o700)
         wanted = ["lab: shut/a.resc may not be read", "lab:   s.resc:1: include @shut/a.resc"]
         self.assertEqual(self.explained(4, "run", "s.resc"), wanted)
 
     def test_an_image_from_a_pipe_is_not_read_again(self) -> None:
-        self.write({"s.resc": f"{MAKE}sysbus LoadELF @pipe\nemulation RunFor 0.000001\n"})
-        os.mkfifo(self.folder / "pipe")
-        with subprocess.Popen(["sh", "-c", "cat >pipe"], cwd=self.folder, stdin=subprocess.PIPE) as writer:
+        self.put({"s.resc": f"{MAKE}sysbus LoadELF @pipe\nemulation RunFor 0.000001\n"})
+        os.mkfifo(self.room / "pipe")
+        with subprocess.Popen(["sh", "-c", "cat >pipe"], cwd=self.room, stdin=subprocess.PIPE) as writer:
             assert writer.stdin
             writer.stdin.write(elf(0x7))
             writer.stdin.close()
             self.assertEqual(self.explained(0, "check", "s.resc"), [])
 
     def test_where_a_finisher_may_have_ended_a_run_no_line_is_told(self) -> None:
-        """The first run ends at once, and it is the third that is too long."""
+        """The first run ends in its first round, and it is the third that is too long. Rounds are long, and so few."""
         program = ("0x001002B7", "0x00005337", "0x55530313", "0x0062A023", "0x0000006F")
         words = "".join(f"sysbus WriteDoubleWord {0x80000000 + 4 * n} {word}\n" for n, word in enumerate(program))
         runs = "cpu PC 0x80000000\n" + "emulation RunFor 6000\ncpu IsHalted true\n" * 2 + "emulation RunFor 6000\n"
-        made = "mach create\nmachine LoadPlatformDescription @finisher.repl\n"
-        self.write({"finisher.repl": BOARD + FINISHER, "s.resc": made + words + runs})
+        made = "emulation SetGlobalQuantum 1\nmach create\nmachine LoadPlatformDescription @finisher.repl\n"
+        self.put({"finisher.repl": BOARD + FINISHER, "s.resc": made + words + runs})
         said = self.explained(3, "run", "s.resc")
-        self.assertEqual(self.printed.splitlines()[-1], "error: s.resc:13: S14 lab time")
+        self.assertEqual(self.printed.splitlines()[-1], "error: s.resc:14: S14 lab time")
         self.assertEqual([line[:26] for line in said], ["lab: docs/SCRIPTS.md: the "])
-        self.write({"s.resc": made + words + runs.replace("6000", "10") + "foo\n"})
-        self.assertEqual(self.explained(3, "run", "s.resc")[0], "lab:   s.resc:14: foo")
+        self.put({"s.resc": made + words + runs.replace("6000", "10") + "foo\n"})
+        self.assertEqual(self.explained(3, "run", "s.resc")[0], "lab:   s.resc:15: foo")
 
     def test_a_snapshot_that_is_too_large_is_told_where_it_is_saved(self) -> None:
         """A check writes none, and takes the line. The memory is full, so that the snapshot has all of it."""
         loads = "".join(f"sysbus LoadBinary @full {0x80000000 + part * 2**24}\n" for part in range(4))
-        self.write({"full": b"x" * 2**24, "board.repl": BOARD.replace("0x10000 }", "0x4000000 }")})
-        self.write({"s.resc": f"{MAKE}{loads}Save @kept\n"})
+        self.put({"full": b"x" * 2**24, "board.repl": BOARD.replace("0x10000 }", "0x4000000 }")})
+        self.put({"s.resc": f"{MAKE}{loads}Save @kept\n"})
         said = self.explained(3, "run", "s.resc")
         self.assertEqual(said[0], "lab:   s.resc:8: Save @kept")
         self.assertIn("A snapshot has the pages that the firmware has used", said[1])
@@ -266,10 +265,10 @@ class Table(Explained):
     """The rows of docs/RENODE.md, each by the program."""
 
     def test_each_line_is_refused_so(self) -> None:
-        self.write({"board.repl": BOARD, "make.resc": MAKE})
+        self.put({"board.repl": BOARD, "make.resc": MAKE})
         for line, cause, advice in TRIALS:
             with self.subTest(line=line):
-                self.write({"s.resc": f"include @make.resc\n{line}\n"})
+                self.put({"s.resc": f"include @make.resc\n{line}\n"})
                 said = self.explained(4 if cause == "4" else 3, "run", "s.resc", "--until", "0")
                 advised = [row for row in said if row.startswith(f"lab: docs/RENODE.md: {advice}")]
                 self.assertEqual(len(advised), 1, said)
@@ -293,8 +292,8 @@ class Table(Explained):
 
     def test_what_is_said_to_do_is_taken(self) -> None:
         memory = "spare: Memory.MappedMemory @ sysbus 0x40021000 { size: 0x1000 }\n"
-        self.write({"board.repl": BOARD, "s.resc": MAKE + INSTEAD, "byte": "A", "empty.resc": ""})
-        self.write({"tagged.repl": f'using "board.repl"\n{memory}'})
+        self.put({"board.repl": BOARD, "s.resc": MAKE + INSTEAD, "byte": "A", "empty.resc": ""})
+        self.put({"tagged.repl": f'using "board.repl"\n{memory}'})
         self.assertEqual(self.explained(0, "run", "s.resc", "--until", "0.00001"), [])
 
 
@@ -343,15 +342,15 @@ class Silent(Explained):
     """What is mostly a mistake, and silent."""
 
     def test_what_is_said_after_0(self) -> None:
-        self.write({"a": b"\x6f\0\0\0", "high.hex": ":0200000480007A\n:0400000013000000E9\n:00000001FF\n"})
-        self.write({"low.hex": ":040000006F0000008D\n:00000001FF\n"})
+        self.put({"a": b"\x6f\0\0\0", "high.hex": ":0200000480007A\n:0400000013000000E9\n:00000001FF\n"})
+        self.put({"low.hex": ":040000006F0000008D\n:00000001FF\n"})
         for lines, flags, board, wanted in SILENT:
             with self.subTest(lines=lines, flags=flags, board=board):
-                self.write({"s.resc": MAKE + lines, "a.elf": elf(flags, 0), "board.repl": board})
+                self.put({"s.resc": MAKE + lines, "a.elf": elf(flags, 0), "board.repl": board})
                 self.assertEqual(self.explained(0, "run", "s.resc"), wanted)
 
     def test_until_does_nothing_without_start(self) -> None:
-        self.write({"on.resc": "start\n"})
+        self.put({"on.resc": "start\n"})
         wanted = ["lab: --until does nothing: it says how far `start` runs, and s.resc has no `start`"]
         for script, words, said in (
             ("emulation RunFor 1\n", "--until 2", wanted),
@@ -359,7 +358,7 @@ class Silent(Explained):
             ("include @on.resc\n", "--until 2", []),
         ):
             with self.subTest(script=script, words=words):
-                self.write({"s.resc": script})
+                self.put({"s.resc": script})
                 self.assertEqual(self.explained(0, "run", "s.resc", *words.split()), said)
 
     def test_other_words_are_none_of_a_script(self) -> None:
@@ -374,7 +373,7 @@ class Started(Explained):
 
     def setUp(self) -> None:
         super().setUp()
-        top = self.folder / "top"
+        top = self.room / "top"
         out = top / "crates" / "lab_cli" / "out"
         out.mkdir(parents=True)
         for folder in ("bin", "tools"):
@@ -390,15 +389,15 @@ class Started(Explained):
 
     def ends(self, status: int, said: List[str], *words: str) -> None:
         """A run ends with this status, prints what the program does, and says these lines."""
-        program = subprocess.run([lab(), *words], cwd=self.folder, stdout=subprocess.PIPE)
-        ran = subprocess.run([self.lab, *words], cwd=self.folder, stdout=subprocess.PIPE, stderr=subprocess.PIPE)
+        program = subprocess.run([lab(), *words], cwd=self.room, stdout=subprocess.PIPE)
+        ran = subprocess.run([self.lab, *words], cwd=self.room, stdout=subprocess.PIPE, stderr=subprocess.PIPE)
         self.assertEqual((ran.returncode, ran.stdout), (status, program.stdout))
         self.assertEqual(program.returncode, status)
         self.assertEqual(ran.stderr.decode().splitlines()[-len(said) :] if said else ran.stderr, said or b"")
 
     def test_statuses(self) -> None:
-        self.write({"board.repl": BOARD, "kept.resc": "Load @kept\n"})
-        self.write({"done.resc": MAKE + "cpu PC\n", "refused.resc": "cpu\n", "missing.resc": "include @a\n"})
+        self.put({"board.repl": BOARD, "kept.resc": "Load @kept\n"})
+        self.put({"done.resc": MAKE + "cpu PC\n", "refused.resc": "cpu\n", "missing.resc": "include @a\n"})
         self.ends(0, [], "run", "done.resc")
         self.ends(0, [], "check", "done.resc")
         self.ends(2, [], "run")
@@ -410,13 +409,13 @@ class Started(Explained):
         self.ends(6, ["lab: kept is not there", "lab:   kept.resc:1: Load @kept"], "run", "kept.resc")
 
     def test_warnings(self) -> None:
-        self.write({"board.repl": BOARD, "a.elf": elf(0, 0)})
-        self.write({"s.resc": MAKE + "sysbus LoadELF @a.elf\n"})
+        self.put({"board.repl": BOARD, "a.elf": elf(0, 0)})
+        self.put({"s.resc": MAKE + "sysbus LoadELF @a.elf\n"})
         wanted = ["lab: s.resc never runs: it has no `emulation RunFor` and no `start`"]
         self.ends(0, [], "run", "s.resc")
         self.ends(0, wanted, "check", "s.resc")
         master, slave = pty.openpty()
-        subprocess.run([self.lab, "run", "s.resc"], cwd=self.folder, stderr=slave, check=True)
+        subprocess.run([self.lab, "run", "s.resc"], cwd=self.room, stderr=slave, check=True)
         os.close(slave)
         self.assertEqual(os.read(master, 1000).decode().splitlines(), wanted)
         os.close(master)

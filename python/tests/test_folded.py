@@ -3,16 +3,12 @@ difference, and on the page of tools/log, which keeps none but the first. The li
 It needs no program: a stand-in prints a file.
 """
 import os
-import pathlib
-import shutil
 import subprocess
-import tempfile
 import unittest
-from typing import Tuple
 
 from labtools.common.program import TOP
 from labtools.logs import folded
-
+from tests.commands import Room
 
 STAND_IN = '#!/bin/sh\n[ "$1" = run ] || exit 2\n[ "$2" != -- ] || shift\nexec cat "$2.prints"\n'
 POLL = "[{}.{:06}] {}/sysbus: read 1 at 0x10000005"
@@ -114,44 +110,33 @@ class Differences(unittest.TestCase):
         self.assertEqual(told, [("a poll", 3), ("one", 1), ("two", 1)])
 
 
-class Tools(unittest.TestCase):
+class Tools(Room):
     def setUp(self) -> None:
-        self.room = pathlib.Path(tempfile.mkdtemp(prefix="lab-folded-"))
-        self.addCleanup(shutil.rmtree, self.room)
-        (self.room / "lab").write_text(STAND_IN)
-        (self.room / "lab").chmod(0o755)
-        (self.room / "s.resc").touch()
-
-    def call(self, *words: str) -> Tuple[int, str]:
-        command, env = [str(TOP / "tools" / words[0]), *words[1:]], {**os.environ, "LAB": str(self.room / "lab")}
-        pipe, null = subprocess.PIPE, subprocess.DEVNULL
-        ran = subprocess.run(
-            command, cwd=self.room, env=env, timeout=300, stdin=null, stdout=pipe, stderr=subprocess.STDOUT, text=True
-        )
-        return ran.returncode, ran.stdout
+        super().setUp()
+        self.write("lab", STAND_IN, 0o755)
+        self.write("s.resc", "")
+        self.environment["LAB"] = str(self.room / "lab")
 
     def test_a_flood_is_one_line_of_a_difference(self) -> None:
-        (self.room / "s.log").write_text("[0.000001] m/u: one\n")
-        (self.room / "s.resc.prints").write_text(flood(20_000))
+        self.put({"s.log": "[0.000001] m/u: one\n", "s.resc.prints": flood(20_000)})
         line = "+[0.000001] m/sysbus: read 1 at 0x10000005  (20000 times, to 0.020000)\n"
         for words in ("expect", "s.resc", "s.log"), ("suite", "s.resc"):
             with self.subTest(words=words):
-                status, told = self.call(*words)
-                self.assertEqual(status, 1, told)
-                self.assertIn(f"@@ -1 +1,20000 @@\n-[0.000001] m/u: one\n{line}", told.replace("\n  ", "\n"))
+                ran = self.ran(TOP / "tools" / words[0], *words[1:], stderr=subprocess.STDOUT)
+                self.assertEqual(ran.returncode, 1, ran.stdout)
+                told = ran.stdout.replace("\n  ", "\n")
+                self.assertIn(f"@@ -1 +1,20000 @@\n-[0.000001] m/u: one\n{line}", told)
                 self.assertLessEqual(told.count("read 1 at"), 21)
 
     def test_bytes_of_a_kept_log_that_are_no_text_are_shown_as_they_are(self) -> None:
-        (self.room / "s.log").write_bytes(b"\xff\xc3 a\r\n")
-        (self.room / "s.resc.prints").write_bytes(b"b\n")
+        self.put({"s.log": b"\xff\xc3 a\r\n", "s.resc.prints": "b\n"})
         words = [str(TOP / "tools/expect"), "s.resc", "s.log"]
-        env = {**os.environ, "LAB": str(self.room / "lab")}
-        ran = subprocess.run(words, cwd=self.room, env=env, stdout=subprocess.PIPE)
+        ran = subprocess.run(words, cwd=self.room, env=self.environment, stdout=subprocess.PIPE)
         self.assertEqual((ran.returncode, ran.stdout[-22:]), (1, b"@@ -1 +1 @@\n-\xff\xc3 a\r\n+b\n"))
 
     def most_memory(self, count: int) -> int:
         """Returns how many KiB the tool takes to make a page of a flood."""
-        (self.room / "a.log").write_text(flood(count))
+        self.write("a.log", flood(count))
         words = [str(TOP / "tools/log"), "--html", str(self.room / "a.html"), str(self.room / "a.log")]
         process = subprocess.Popen(words, stdout=subprocess.DEVNULL)
         _, status, usage = os.wait4(process.pid, 0)
@@ -161,4 +146,4 @@ class Tools(unittest.TestCase):
 
     def test_a_page_of_a_flood_takes_no_more_memory_than_a_short_one(self) -> None:
         self.assertLess(self.most_memory(300_000) - self.most_memory(2), 8_000)
-        self.assertIn('"items":[[1,2,0,0,2]]', (self.room / "a.html").read_text())
+        self.assertIn('"items":[[1,2,0,0,2]]', self.read("a.html"))

@@ -3,7 +3,7 @@ by several workers."""
 import pathlib
 import shutil
 
-from labtools.common.program import TOP
+from labtools.common.program import TOP, path_of_program
 from tests.commands import SCRIPT, Packaged
 
 # Where nobody reads on.
@@ -61,7 +61,7 @@ class Lab(Packaged):
                 self.wants_by_shell(0, "", f"cd '{TOP}' && {made} >'{self.room}/image'")
                 lines = SCRIPT.splitlines()[:2]
                 self.write("image.resc", "\n".join([*lines, f"sysbus {loads} @image", ""]))
-                self.wants(3, f"error: image.resc:3: {cause}", self.lab, "run", "image.resc")
+                self.wants(3, f"error: image.resc:3: {cause}", path_of_program(), "run", "image.resc")
 
 
 class Workers(Packaged):

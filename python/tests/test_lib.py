@@ -1,5 +1,6 @@
 """Tries functions of labtools and labdev at their limits: which variants and flags a snapshot may have, how paths and
-names of an ELF file are shown, when a processor is said to be in a trap loop, and what the files of a case are.
+names of an ELF file are shown, when a processor is said to be in a trap loop, what the files of a case are, and which
+signs of a text are printed as escapes.
 """
 import os
 import tempfile
@@ -8,14 +9,11 @@ import unittest
 from typing import Any, Dict, List, Optional, Tuple
 
 from labdev import cases
-from labtools.boards import machine
-from labtools.boards import snapshot
-from labtools.boards import stacks
-from labtools.boards import traps
+from labtools.boards import machine, snapshot, stacks, traps
+from labtools.common import escapes
 from labtools.common.program import TOP
-from labtools.elf import elf
-from labtools.elf import unwind
-
+from labtools.elf import elf, unwind
+from tests.commands import Room
 
 HANDLER = 0x80000100
 
@@ -106,27 +104,21 @@ class Machines(unittest.TestCase):
             self.assertEqual(told, f"board m: {wanted}")
 
 
-class Images(unittest.TestCase):
+class Images(Room):
     def test_marks_of_the_assembler_are_no_functions(self) -> None:
         names = "main", "_start", "a.part.0", "", "$x", "$d", ".L4"
         self.assertEqual([name for name in names if elf.is_code_name(name)], ["main", "_start", "a.part.0"])
 
     def test_a_path_is_shown_from_this_folder_on_where_it_lies_in_it(self) -> None:
-        before = os.getcwd()
-        self.addCleanup(os.chdir, before)
-        with tempfile.TemporaryDirectory(prefix="lab-lib-") as folder:
-            os.chdir(folder)
-            here = os.getcwd()
-            shown = {
-                f"{here}/src/./main.c": "src/main.c",
-                f"{here}/main.c": "main.c",
-                "/none/main.c": "/none/main.c",
-                "src/./main.c": "src/main.c",
-                "../main.c": "../main.c",
-            }
-            for path, wanted in shown.items():
-                self.assertEqual(elf.short(path), wanted)
-            os.chdir(before)
+        self.enter()
+        for path, wanted in (
+            (f"{self.room}/src/./main.c", "src/main.c"),
+            (f"{self.room}/main.c", "main.c"),
+            ("/none/main.c", "/none/main.c"),
+            ("src/./main.c", "src/main.c"),
+            ("../main.c", "../main.c"),
+        ):
+            self.assertEqual(elf.short(path), wanted)
 
 
 class Forms(unittest.TestCase):
@@ -186,22 +178,21 @@ class Traps(unittest.TestCase):
         stack = unwind.Stack(hart, machine.Memory([]), unwind.Code([]))
         return traps.loop_of(hart, stack, stack.frames())
 
-    def warns(self, **state: int) -> bool:
-        return self.loop(**state) is not None
-
     def test_a_processor_traps_again_and_again_at_its_handler(self) -> None:
-        self.assertTrue(self.warns(mcause=2))
-        self.assertTrue(self.warns(mtval=4))
-        self.assertTrue(self.warns())
-
-    def test_it_does_not_after_an_interrupt_or_elsewhere(self) -> None:
-        self.assertFalse(self.warns(mcause=0x80000007))
-        self.assertFalse(self.warns(mcause=2, pc=HANDLER + 4))
-        self.assertFalse(self.warns(mcause=2, mepc=HANDLER + 4))
-
-    def test_it_does_not_while_it_waits_or_is_halted(self) -> None:
-        self.assertFalse(self.warns(mcause=2, waiting=1))
-        self.assertFalse(self.warns(mcause=2, halted=1))
+        """It does not after an interrupt, or elsewhere, or while it waits or is halted."""
+        rows: List[Tuple[bool, Dict[str, int]]] = [
+            (True, {"mcause": 2}),
+            (True, {"mtval": 4}),
+            (True, {}),
+            (False, {"mcause": 0x80000007}),
+            (False, {"mcause": 2, "pc": HANDLER + 4}),
+            (False, {"mcause": 2, "mepc": HANDLER + 4}),
+            (False, {"mcause": 2, "waiting": 1}),
+            (False, {"mcause": 2, "halted": 1}),
+        ]
+        for is_loop, state in rows:
+            with self.subTest(state=state):
+                self.assertEqual(self.loop(**state) is not None, is_loop)
 
     def test_entries_are_the_slots_in_which_no_instruction_retired(self) -> None:
         loop = self.loop(mcause=2)
@@ -216,18 +207,18 @@ class Traps(unittest.TestCase):
 
 
 class Stacks(unittest.TestCase):
-    def shared(self, *stacks_: Tuple[int, int]) -> int:
-        """How many pairs are told of the processors with these stacks, from the stack pointer to the top."""
-        return len(stacks.shared([stacks.Extent(f"cpu{n}", low, top) for n, (low, top) in enumerate(stacks_)]))
-
     def test_a_stack_is_one_where_it_begins_at_one_place_or_frames_lie_among_frames(self) -> None:
-        self.assertEqual(self.shared((0x8FE0, 0x9000), (0x9000, 0x9000)), 1)
-        self.assertEqual(self.shared((0x8FE0, 0x9000), (0x8FF0, 0x8FF0)), 1)
-        self.assertEqual(self.shared((0x8FE0, 0x8FE0), (0x8FE0, 0x8FE0)), 1)
-        self.assertEqual(self.shared((0x8FE0, 0x9000), (0x8FD0, 0x9000), (0x8FC0, 0x9000)), 3)
-
-    def test_stacks_below_one_another_are_not_one(self) -> None:
-        self.assertEqual(self.shared((0x8F00, 0x9000), (0x7FE0, 0x8000), (0x7000, 0x7000)), 0)
+        """How many pairs are told of processors with these stacks, from the stack pointer to the top. Stacks below one
+        another are not one."""
+        for pairs, extents in (
+            (1, ((0x8FE0, 0x9000), (0x9000, 0x9000))),
+            (1, ((0x8FE0, 0x9000), (0x8FF0, 0x8FF0))),
+            (1, ((0x8FE0, 0x8FE0), (0x8FE0, 0x8FE0))),
+            (3, ((0x8FE0, 0x9000), (0x8FD0, 0x9000), (0x8FC0, 0x9000))),
+            (0, ((0x8F00, 0x9000), (0x7FE0, 0x8000), (0x7000, 0x7000))),
+        ):
+            told = stacks.shared([stacks.Extent(f"cpu{n}", low, top) for n, (low, top) in enumerate(extents)])
+            self.assertEqual(len(told), pairs, extents)
 
 
 CASE = """What it shows.
@@ -294,3 +285,25 @@ class Cases(unittest.TestCase):
     def test_a_snapshot_is_gone_behind_its_look(self) -> None:
         words, files = self.runs()[6]
         self.assertEqual((words, "five" in files), (["check", "x.resc"], False))
+
+
+# Texts, and what is printed of them.
+SHOWN = {
+    "tests/größe 1.resc": "tests/größe 1.resc",
+    "日本": "日本",
+    "a\\x1b": "a\\x1b",
+    "a\nok 2 - b": "a\\x0aok 2 - b",
+    "\x1b[31m\t\x7f": "\\x1b[31m\\x09\\x7f",
+    "\x85\xa0\u2028\u2029": "\\x85\\xa0\\u2028\\u2029",
+    "\u202e\ufeff\U000e0001": "\\u202e\\ufeff\\U000e0001",
+    os.fsdecode(b"\x80.\xff"): "\\x80.\\xff",
+    "\ud800": "\\ud800",
+}
+
+
+class Escapes(unittest.TestCase):
+    def test_signs_that_cannot_be_seen_are_escaped(self) -> None:
+        self.assertEqual({text: escapes.shown(text) for text in SHOWN}, SHOWN)
+
+    def test_lines_stay_lines(self) -> None:
+        self.assertEqual(escapes.shown_lines("a\tb\x1b\nc\u2028\n"), "a\tb\\x1b\nc\\u2028\n")

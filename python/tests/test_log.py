@@ -4,18 +4,15 @@ the Trace Event Format. The page is opened in chromium; where there is none, tha
 import html
 import json
 import os
-import pathlib
 import re
 import shutil
 import subprocess
-import tempfile
 import unittest
 from typing import Any, Dict, Iterator, List, Tuple
 
 from labtools.common.program import TOP
 from labtools.logs import log_lines
-from tests import tools
-
+from tests.commands import Room
 
 TOOL = str(TOP / "tools" / "log")
 BROWSER = next(filter(None, map(shutil.which, ("chromium", "chromium-browser", "google-chrome"))), None)
@@ -40,20 +37,30 @@ LOG = """\
 [12.000100] pause m0/fin: fail 3
 error: s.resc:9: S1 unknown command
 """
+TRACE = """{"displayTimeUnit": "ns", "traceEvents": [
+{"ph": "M", "pid": 1, "tid": 1, "name": "process_name", "args": {"name": "m0"}},
+{"ph": "M", "pid": 1, "tid": 1, "name": "thread_name", "args": {"name": "sysbus"}},
+{"ph": "M", "pid": 1, "tid": 2, "name": "process_name", "args": {"name": "m0"}},
+{"ph": "M", "pid": 1, "tid": 2, "name": "thread_name", "args": {"name": "uart"}},
+{"ph": "M", "pid": 1, "tid": 3, "name": "process_name", "args": {"name": "m0"}},
+{"ph": "M", "pid": 1, "tid": 3, "name": "thread_name", "args": {"name": "fin"}},
+{"ph": "X", "pid": 1, "tid": 1, "name": "read 1 at 0x10000005", "cat": "bus", "ts": 3, "dur": 3,
+ "args": {"line": 1, "count": 2}},
+{"ph": "i", "pid": 1, "tid": 2, "name": "hi", "cat": "uart", "ts": 7, "s": "t", "args": {"line": 3, "count": 1}},
+{"ph": "i", "pid": 1, "tid": 3, "name": "pass", "cat": "finisher", "ts": 1000000, "s": "g",
+ "args": {"line": 4, "count": 1}}
+]}"""
 
 
-class InFolder(unittest.TestCase):
-    """A test with an empty folder of its own."""
-
-    maxDiff = None
+class Logs(Room):
+    """A test with a folder in which the log stands."""
 
     def setUp(self) -> None:
-        self.folder = pathlib.Path(tempfile.mkdtemp(prefix="log-"))
-        self.addCleanup(shutil.rmtree, self.folder)
-        (self.folder / "a.log").write_text(LOG)
+        super().setUp()
+        self.write("a.log", LOG)
 
     def run_tool(self, *words: str, status: int = 0, given: str = "") -> str:
-        ran = tools.call(TOOL, *words, cwd=self.folder, given=given)
+        ran = self.ran(TOOL, *words, given=given)
         self.assertEqual(ran.returncode, status, ran.stderr)
         return ran.stdout
 
@@ -95,13 +102,13 @@ class Lines(unittest.TestCase):
         self.assertEqual(told, [(1, 2), (2, 1), (3, 2), (5, 1), (6, 1)])
 
 
-class Written(InFolder):
+class Written(Logs):
     """Files, frames and events."""
 
     def test_split(self) -> None:
         self.run_tool("--split", "apart", "a.log")
         self.assertEqual(
-            {path.name: path.read_text() for path in (self.folder / "apart").iterdir()},
+            {path.name: path.read_text() for path in (self.room / "apart").iterdir()},
             {
                 "m0.uart.log": '[0.000001] a <b> & "c" \\x00 \\\\\n',
                 "m1.can.log": "[0.000002] tx 7ff data 8 0102030405060708\n[0.000002] tx 00a remote 8\n"
@@ -117,7 +124,7 @@ class Written(InFolder):
 
     def test_split_without_times(self) -> None:
         self.run_tool("--split", "apart", "--no-times", "-", given=LOG)
-        self.assertEqual((self.folder / "apart" / "m0.fin.log").read_text(), "pass\nfail 3\n")
+        self.assertEqual(self.read("apart/m0.fin.log"), "pass\nfail 3\n")
 
     def test_candump(self) -> None:
         sent = "(0000000000.000002) m1.can 7FF#0102030405060708\n(0000000000.000002) m1.can 00A#R8\n"
@@ -127,76 +134,35 @@ class Written(InFolder):
     def test_trace(self) -> None:
         log = "[0.000003] m0/sysbus: read 1 at 0x10000005\n[0.000006] m0/sysbus: read 1 at 0x10000005\n"
         log += "[0.000007] m0/uart: hi\n[1.000000] pause m0/fin: pass\n"
-        wanted = {
-            "displayTimeUnit": "ns",
-            "traceEvents": [
-                {"ph": "M", "pid": 1, "tid": 1, "name": "process_name", "args": {"name": "m0"}},
-                {"ph": "M", "pid": 1, "tid": 1, "name": "thread_name", "args": {"name": "sysbus"}},
-                {"ph": "M", "pid": 1, "tid": 2, "name": "process_name", "args": {"name": "m0"}},
-                {"ph": "M", "pid": 1, "tid": 2, "name": "thread_name", "args": {"name": "uart"}},
-                {"ph": "M", "pid": 1, "tid": 3, "name": "process_name", "args": {"name": "m0"}},
-                {"ph": "M", "pid": 1, "tid": 3, "name": "thread_name", "args": {"name": "fin"}},
-                {
-                    "name": "read 1 at 0x10000005",
-                    "cat": "bus",
-                    "ts": 3,
-                    "pid": 1,
-                    "tid": 1,
-                    "ph": "X",
-                    "dur": 3,
-                    "args": {"line": 1, "count": 2},
-                },
-                {
-                    "name": "hi",
-                    "cat": "uart",
-                    "ts": 7,
-                    "pid": 1,
-                    "tid": 2,
-                    "ph": "i",
-                    "s": "t",
-                    "args": {"line": 3, "count": 1},
-                },
-                {
-                    "name": "pass",
-                    "cat": "finisher",
-                    "ts": 1000000,
-                    "pid": 1,
-                    "tid": 3,
-                    "ph": "i",
-                    "s": "g",
-                    "args": {"line": 4, "count": 1},
-                },
-            ],
-        }
-        self.assertEqual(json.loads(self.run_tool("--trace", "-", given=log)), wanted)
+        self.assertEqual(json.loads(self.run_tool("--trace", "-", given=log)), json.loads(TRACE))
 
     def test_bytes_that_are_no_text(self) -> None:
         """A file and the standard input are read alike, lines may end as on Windows, and the last one anyhow."""
         log = b"[0.000001] m/u: \xff\xc3\xa9\x00\r\n[0.000002] m/u: end"
-        (self.folder / "b.log").write_bytes(log)
+        self.write("b.log", log)
         for name in "b.log", "-":
-            subprocess.run([TOOL, "--split", "apart", name], cwd=self.folder, input=log, check=True)
-            said = (self.folder / "apart" / "m.u.log").read_bytes()
+            subprocess.run([TOOL, "--split", "apart", name], cwd=self.room, input=log, check=True)
+            said = (self.room / "apart" / "m.u.log").read_bytes()
             self.assertEqual(said, b"[0.000001] \\xff\\xc3\\xa9\x00\n[0.000002] end\n")
 
     def test_a_reader_that_ends(self) -> None:
         """`| head` is no fault of this script, so it says nothing."""
-        (self.folder / "long.log").write_text("".join(f"[0.000001] m/u: {n}\n" for n in range(10_000)))
+        self.write("long.log", "".join(f"[0.000001] m/u: {n}\n" for n in range(10_000)))
         command = f'"{TOOL}" --trace long.log | head -n 1'
-        ran = subprocess.run(command, cwd=self.folder, shell=True, capture_output=True, text=True, check=True)
+        ran = subprocess.run(command, cwd=self.room, shell=True, capture_output=True, text=True, check=True)
         self.assertEqual((ran.stdout, ran.stderr), ('{"displayTimeUnit": "ns", "traceEvents": [\n', ""))
 
     def test_a_number_that_is_no_lab_time_is_none(self) -> None:
-        (self.folder / "b.log").write_text(LONG_TIMES)
+        self.write("b.log", LONG_TIMES)
         self.run_tool("--split", "apart", "b.log")
-        self.assertEqual((self.folder / "apart" / "m.u.log").read_text(), "[10000.000000] last\n")
-        self.assertEqual((self.folder / "apart" / "script.log").read_text(), LONG_TIMES.partition("\n")[2])
+        self.assertEqual(self.read("apart/m.u.log"), "[10000.000000] last\n")
+        self.assertEqual(self.read("apart/script.log"), LONG_TIMES.partition("\n")[2])
 
     def test_an_empty_log(self) -> None:
         self.assertEqual(self.run_tool("--candump", "-"), "")
         self.assertEqual(json.loads(self.run_tool("--trace", "-"))["traceEvents"], [])
         self.run_tool("--split", "apart", "-")
-        self.assertEqual(list((self.folder / "apart").iterdir()), [])
+        self.assertEqual(list((self.room / "apart").iterdir()), [])
 
     def test_words(self) -> None:
         self.run_tool("a.log", status=2)
@@ -208,28 +174,39 @@ class Written(InFolder):
             (".", "[Errno 21] Is a directory: '.'"),
         ):
             closed = subprocess.run(
-                ["sh", "-c", '"$0" --candump "$1" <&-', TOOL, given], cwd=self.folder, capture_output=True
+                ["sh", "-c", '"$0" --candump "$1" <&-', TOOL, given], cwd=self.room, capture_output=True
             )
             self.assertEqual((closed.returncode, closed.stderr.decode()), (1, f"tools/log: {line}\n"))
         self.run_tool("--html", "none/a.html", "a.log", status=1)
         self.assertIn("tools/log --split FOLDER", self.run_tool("--help"))
 
 
-class Page(InFolder):
-    """The page, and what a browser makes of it."""
+class Page(Logs):
+    """The page of a log, or of two."""
 
     def data(self, *logs: str) -> Dict[str, List[Any]]:
         self.run_tool("--html", "a.html", *logs)
-        text = (self.folder / "a.html").read_text()
+        text = self.read("a.html")
         found = re.search(r'<script id="data" type="application/json">(.*?)</script>', text)
         assert found
         held: Dict[str, List[Any]] = json.loads(found[1])
         return held
 
+    def two_logs(self) -> Tuple[str, str]:
+        """The second log has a line at another time, one with another text, and one more."""
+        self.write("b.log", "[0.000001] m/u: one\n[0.000002] m/u: two\n[0.000003] m/u: three\n")
+        self.write(
+            "c.log", "[0.000001] m/u: one\n[0.000005] m/u: two\n[0.000006] m/u: tree\n[0.000007] pause m/f: fail 1\n"
+        )
+        return "b.log", "c.log"
+
+
+class Data(Page):
     def test_data(self) -> None:
-        (self.folder / "b.log").write_text(
+        self.write(
+            "b.log",
             "[0.000001] m/can: rx 123 data 2 0a0b\n[0.000002] m/sysbus: read 1 at 0x00000000\n"
-            "[0.000003] m/sysbus: read 1 at 0x00000000\n[0.000004] m/can: tx 7ff remote 2\n"
+            "[0.000003] m/sysbus: read 1 at 0x00000000\n[0.000004] m/can: tx 7ff remote 2\n",
         )
         wanted = {
             "name": "b.log",
@@ -242,14 +219,6 @@ class Page(InFolder):
         }
         self.assertEqual(self.data("b.log"), {"logs": [wanted]})
 
-    def two_logs(self) -> Tuple[str, str]:
-        """The second log has a line at another time, one with another text, and one more."""
-        (self.folder / "b.log").write_text("[0.000001] m/u: one\n[0.000002] m/u: two\n[0.000003] m/u: three\n")
-        (self.folder / "c.log").write_text(
-            "[0.000001] m/u: one\n[0.000005] m/u: two\n[0.000006] m/u: tree\n[0.000007] pause m/f: fail 1\n"
-        )
-        return "b.log", "c.log"
-
     def test_rows(self) -> None:
         self.assertEqual(self.data(*self.two_logs())["rows"], [[0, 0], [1, 1], [2, 2], [None, 3]])
         self.assertEqual(self.data(*reversed(self.two_logs()))["rows"], [[0, 0], [1, 1], [2, 2], [3, None]])
@@ -257,13 +226,18 @@ class Page(InFolder):
 
     def test_nothing_from_outside(self) -> None:
         self.run_tool("--html", "a.html", "a.log")
-        text = (self.folder / "a.html").read_text()
+        text = self.read("a.html")
         self.assertIsNone(re.search(r"https?:|src=|<link|@import|fetch\(|\burl\(", text))
+
+
+@unittest.skipUnless(BROWSER, "the page in a browser, without chromium")
+class Browser(Page):
+    """What a browser makes of the page."""
 
     def opened(self, view: str) -> str:
         """The page as chromium has it after a view of it was opened."""
-        address = f"file://{self.folder}/a.html#{view}"
-        words = ["--headless=new", "--no-sandbox", "--disable-gpu", f"--user-data-dir={self.folder}/browser"]
+        address = f"file://{self.room}/a.html#{view}"
+        words = ["--headless=new", "--no-sandbox", "--disable-gpu", f"--user-data-dir={self.room}/browser"]
         command = [str(BROWSER), *words, "--dump-dom", address]
         ran = subprocess.run(command, stdout=subprocess.PIPE, stderr=subprocess.DEVNULL, timeout=300)
         return ran.stdout.decode()
@@ -278,7 +252,6 @@ class Page(InFolder):
         texts = inner.split('<span class="half">')[1:] if "half" in inner else [inner]
         return [" ".join(html.unescape(re.sub("<[^>]*>", "", text)).split()) for text in texts]
 
-    @unittest.skipUnless(BROWSER, "the page in a browser, without chromium")
     def test_lines_in_a_browser(self) -> None:
         self.run_tool("--html", "a.html", "a.log")
         wanted = [
@@ -298,7 +271,6 @@ class Page(InFolder):
         ]
         self.assertEqual(self.rows_of("lines"), wanted)
 
-    @unittest.skipUnless(BROWSER, "the page in a browser, without chromium")
     def test_differences_in_a_browser(self) -> None:
         self.run_tool("--html", "a.html", *self.two_logs())
         wanted = [
@@ -309,14 +281,12 @@ class Page(InFolder):
         ]
         self.assertEqual(self.rows_of("rows"), wanted)
 
-    @unittest.skipUnless(BROWSER, "the page in a browser, without chromium")
     def test_two_logs_open_on_their_differences(self) -> None:
         self.run_tool("--html", "a.html", *self.two_logs())
         self.assertEqual(self.rows_of(""), self.rows_of("rows"))
 
-    @unittest.skipUnless(BROWSER, "the page in a browser, without chromium")
     def test_a_number_that_is_no_lab_time_does_not_stop_it(self) -> None:
-        (self.folder / "b.log").write_text(LONG_TIMES)
+        self.write("b.log", LONG_TIMES)
         self.run_tool("--html", "a.html", "b.log")
         self.assertLess(self.seconds_to_open(), 60)
 
@@ -328,7 +298,7 @@ class Page(InFolder):
     def assert_opens_within(self, seconds: float, lines: Iterator[str]) -> None:
         """The best of three times, since other tests run beside this one. Where many wait for each processor a time
         says nothing."""
-        (self.folder / "a.log").write_text("".join(lines))
+        self.write("a.log", "".join(lines))
         self.run_tool("--html", "a.html", "a.log")
         times: List[float] = []
         while len(times) < 3 and min(times, default=seconds) >= seconds:
@@ -338,14 +308,12 @@ class Page(InFolder):
             return
         self.assertLess(min(times), seconds)
 
-    @unittest.skipUnless(BROWSER, "the page in a browser, without chromium")
     def test_a_long_log_opens_fast(self) -> None:
         """100,000 lines, no two alike."""
         places = ((n // 10**5, n % 10**5 * 10, n) for n in range(100_000))
         lines = (f"[{s}.{micros:06}] m{n % 4}/uart{n % 3}: line {n}\n" for s, micros, n in places)
         self.assert_opens_within(SECONDS, lines)
 
-    @unittest.skipUnless(BROWSER, "the page in a browser, without chromium")
     def test_a_log_of_many_devices_opens_fast(self) -> None:
         """20,000 devices, each on a board of its own."""
         self.assert_opens_within(SECONDS_OF_MANY, (f"[0.{n:06}] m{n}/uart: line\n" for n in range(20_000)))

@@ -20,11 +20,10 @@ import unittest.mock
 import zipfile
 from typing import Callable, Dict, List, NamedTuple, Optional, Tuple
 
-from labdev import package
-from labdev import wheel
+from labdev import package, wheel
+from labdev.released import sum_of_sources
 from labtools.common.manual import manual_page, page_of_script
 from labtools.common.program import TOP, names_of_tools, path_of_program
-
 
 SOURCES = "5" * 64
 KINDS = "archive", "Debian", "wheel"
@@ -271,11 +270,7 @@ class Packages(unittest.TestCase):
 
     def test_each_has_what_users_need_and_nothing_else(self) -> None:
         have = "lab", "bin/lab", "bin/lab.sources", "VERSION", "docs/SCRIPTS.md", "tools/snapshot"
-        lack = (
-            "crates",
-            "crates.txt",
-            *(f"tools/{name}" for name in ("build", "check", "release", "sources", "package")),
-        )
+        lack = "crates", "crates.txt", *(f"tools/{it}" for it in ("build", "check", "release", "sources", "package"))
         for kind in KINDS:
             with self.subTest(kind=kind):
                 files = self.place(kind).files
@@ -326,10 +321,10 @@ class Packages(unittest.TestCase):
 
     def test_the_debian_package_says_what_it_is(self) -> None:
         self.place("Debian")
-        said = subprocess.run(["dpkg-deb", "-f", self.made["Debian"]], check=True, stdout=subprocess.PIPE, text=True)
-        for line in "Package: lab", f"Version: {package.version()}", "Architecture: amd64":
-            self.assertIn(f"{line}\n", said.stdout)
-        self.assertIn("\nRecommends: python3 (>= 3.8), python3-pyelftools\n", said.stdout)
+        said = subprocess.check_output(["dpkg-deb", "-f", self.made["Debian"]], text=True)
+        recommended = "Recommends: python3 (>= 3.8), python3-pyelftools"
+        for line in "Package: lab", f"Version: {package.version()}", "Architecture: amd64", recommended:
+            self.assertIn(f"\n{line}\n", f"\n{said}")
 
     def test_the_debian_package_goes_with_what_python_has_written_beside_its_tools(self) -> None:
         shutil.copytree(self.place("Debian").files, self.room / "removed/usr/lib/lab", symlinks=True)
@@ -368,13 +363,11 @@ class Packages(unittest.TestCase):
                     self.assertNotRegex(path.read_text(encoding="utf-8"), named, path.name)
                 self.assertIn("`lab-where SCRIPT`", (docs / "TROUBLESHOOTING.md").read_text(encoding="utf-8"))
 
-    def test_the_changes_begin_with_the_version_that_is_packed(self) -> None:
+    def test_the_changes_begin_with_the_version_that_is_packed_and_name_commands_as_installed(self) -> None:
         first = f"lab ({package.version()}) "
         self.assertTrue((self.place("archive").files / "CHANGELOG").read_text(encoding="utf-8").startswith(first))
         packed = (self.place("Debian").folder / "changelog.gz").read_bytes()
         self.assertTrue(gzip.decompress(packed).decode().startswith(first))
-
-    def test_the_changes_name_commands_as_they_are_called_where_they_are_installed(self) -> None:
         with unittest.mock.patch.object(package, "changelog", lambda: b"  * ./lab says, and tools/log splits.\n"):
             self.assertEqual(package.changelog_as_installed(), b"  * lab says, and lab-log splits.\n")
 
@@ -417,7 +410,7 @@ class Packages(unittest.TestCase):
         self.assertNotIn(SOURCES, said.stdout)
 
     def test_a_program_that_is_damaged_or_of_other_sources_is_not_packed(self) -> None:
-        own = subprocess.run([TOP / "tools/sources"], check=True, stdout=subprocess.PIPE, text=True).stdout.strip()
+        own = sum_of_sources()
         total = hashlib.sha256(self.program).hexdigest()
         program = self.room / "lab"
         for kept, is_changed, fault in (
@@ -504,7 +497,6 @@ class Completion(unittest.TestCase):
             with self.subTest(words=words, command=command):
                 self.assertEqual(self.offered(*words, command=command), wanted)
 
-    def test_the_options_of_a_tool_are_offered(self) -> None:
         for name in "lab-suite", "tools/suite":
             self.assertLess({"-j", "--junit", "--tap", "--timeout", "--help"}, set(self.offered("-", command=name)))
 

@@ -4,15 +4,11 @@ Three boards whose memories are empty, three with bytes in four pages each, and 
 no run may leave a block, and each page takes 4 KiB of the heap that valgrind watches."""
 import re
 import shutil
-import subprocess
-import tempfile
-import unittest
-from pathlib import Path
 from typing import List
 
 from labtools.common.program import path_of_program
+from tests.commands import Room
 
-SECONDS = 300
 BOARDS = 3
 PAGE = 4096
 PAGES = 4
@@ -30,25 +26,20 @@ def boards(loads: List[str]) -> List[str]:
     return lines
 
 
-class Pages(unittest.TestCase):
+class Pages(Room):
     def setUp(self) -> None:
+        super().setUp()
         if shutil.which("valgrind") is None:
             self.skipTest("whether each page is freed, without valgrind")
-        folder = tempfile.TemporaryDirectory(prefix="lab-pages-")
-        self.addCleanup(folder.cleanup)
-        self.room = Path(folder.name)
-        (self.room / "board.repl").write_text(PLATFORM)
-        (self.room / "bytes").write_bytes(b"x" * (PAGE + 1))
+        self.put({"board.repl": PLATFORM, "bytes": b"x" * (PAGE + 1)})
 
     def taken(self, lines: List[str]) -> int:
         """Runs the program under valgrind, and returns how many bytes it took from the heap."""
-        (self.room / "script").write_text("".join(f"{line}\n" for line in lines))
-        command = ["valgrind", "--leak-check=full", "--show-leak-kinds=all", path_of_program(), "run", "script"]
-        ran = subprocess.run(
-            command, cwd=self.room, stdin=subprocess.DEVNULL, capture_output=True, timeout=SECONDS, check=False
-        )
-        told = ran.stderr.decode(errors="replace")
-        self.assertEqual((ran.returncode, ran.stdout), (0, b""), told)
+        self.write("script", "".join(f"{line}\n" for line in lines))
+        words = ["valgrind", "--leak-check=full", "--show-leak-kinds=all", path_of_program(), "run", "script"]
+        ran = self.ran(*words)
+        told = ran.stderr
+        self.assertEqual((ran.returncode, ran.stdout), (0, ""), told)
         self.assertIn("All heap blocks were freed", told)
         self.assertIn("ERROR SUMMARY: 0 errors", told)
         usage = re.search(r"total heap usage: [\d,]+ allocs, [\d,]+ frees, ([\d,]+) bytes allocated", told)

@@ -20,13 +20,12 @@ import unittest
 from dataclasses import dataclass
 from typing import Callable, Dict, Iterable, Iterator, List, Optional, Tuple
 
-from labdev import cases, mangle
+from labdev import cases, mangle, trials
 from labtools.boards import run_until
 from labtools.common.program import TOP
-from labtools.scripts import finishers, reads
-from tests import tools
-from tests.scripts import CPU, RAM, Files, InFolder, lab, put
-
+from labtools.scripts import reads
+from tests.commands import Room
+from tests.scripts import CPU, RAM, Files, lab
 
 # the causes that reads.py does not look for
 LATER = re.compile(r"(S7|S8|S9|S14|S16|S20|P\d+|E\d+|H\d+) ")
@@ -115,21 +114,21 @@ PRINTED: List[Tuple[Files, List[str], str, int]] = [
 ]
 
 
-class Printed(InFolder):
+class Printed(Room):
     """What tools/reads prints."""
 
     def reads(self, *words: str) -> "subprocess.CompletedProcess[str]":
-        return tools.call(TOP / "tools/reads", *words, cwd=self.folder)
+        return self.ran(TOP / "tools/reads", *words)
 
     def test_what_is_printed(self) -> None:
         for files, words, wanted, status in PRINTED:
             with self.subTest(words=words, wanted=wanted):
-                self.write(files)
+                self.put(files)
                 ran = self.reads(*words)
                 self.assertEqual((ran.stdout, ran.returncode), (wanted, status))
                 self.assertEqual(ran.stderr != "", status == 2 or words == ["/dev/null"])
                 for name in files:
-                    (self.folder / name).unlink()
+                    (self.room / name).unlink()
 
     def test_help_has_the_form(self) -> None:
         self.assertIn("tools/reads [--json] SCRIPT", self.reads("--help").stdout)
@@ -216,21 +215,19 @@ BESIDE: Files = {
 }
 
 
-class Following(InFolder):
+class Following(Room):
     """Scripts that are followed in a folder with some files."""
 
     def setUp(self) -> None:
         super().setUp()
-        self.write(BESIDE)
+        self.put(BESIDE)
 
     def follow(self, script: str, **files: str) -> reads.Reading:
-        self.write({**files, "s.resc": script})
-        return reads.follow("s.resc", self.folder)
+        self.put({**files, "s.resc": script})
+        return reads.follow("s.resc", self.room)
 
     def told(self, script: str, **files: str) -> Optional[Tuple[str, str]]:
-        """The place and the cause of a refusal."""
-        refusal = self.follow(script, **files).refusal
-        return (refusal.place, refusal.cause) if refusal else None
+        return told_by(self.follow(script, **files))
 
 
 class Followed(Following):
@@ -243,7 +240,7 @@ class Followed(Following):
                 self.assertEqual([file.path for file in reading.files], ["s.resc"] + files)
                 fault = reading.refusal
                 self.assertEqual(f"{fault.place.split(':')[1]} {fault.cause}" if fault else None, refused)
-                self.assertEqual(difference("s.resc", self.folder), "")
+                self.assertEqual(difference("s.resc", self.room), "")
 
     def test_numbers_are_as_long_as_lab_takes_them(self) -> None:
         """Zeros before a number, as many as there are, are none of it; 2^32 is too much, however it is written."""
@@ -269,25 +266,25 @@ class Followed(Following):
     def test_platform_files(self) -> None:
         text = '/* using "a"\nusing "b" */\n using "c"\nx: "using"\nusing"d"\t// using "e"\n/**/using "f"\n'
         text += 'using "g"\r\nram: {\nusing "h"\n}\n'
-        self.write({"p.repl": text, "d": 'using "b"\n', "g": ""})
+        self.put({"p.repl": text, "d": 'using "b"\n', "g": ""})
         reading = self.follow(EQUIPPED)
         self.assertEqual([file.path for file in reading.files[2:]], ["d", "b", "g"])
 
     def test_a_platform_file_that_names_itself(self) -> None:
-        self.write({"p.repl": 'using "p.repl"\n'})
+        self.put({"p.repl": 'using "p.repl"\n'})
         self.assertEqual(len(self.follow(EQUIPPED).files), 10)
         self.assertEqual(self.told(EQUIPPED), ("p.repl:1", "S11 depth"))
 
     def test_files_that_are_no_text_or_too_large(self) -> None:
-        self.write({"a": b"#\n# \xff\n", "large": ""})
+        self.put({"a": b"#\n# \xff\n", "large": ""})
         self.assertEqual(self.told("include @a\n"), ("a:2", "S18 not utf-8"))
-        os.truncate(self.folder / "large", 16 * 2**20 + 1)
-        fault = reads.follow("large", self.folder).refusal
+        os.truncate(self.room / "large", 16 * 2**20 + 1)
+        fault = reads.follow("large", self.room).refusal
         self.assertEqual(fault and (fault.place, fault.cause), ("large:0", "S19 size"))
 
     def test_what_a_pipe_holds_is_not_known(self) -> None:
         """Nothing is said of what follows, which may depend on it, and nothing is taken from the pipe."""
-        os.mkfifo(self.folder / "pipe")
+        os.mkfifo(self.room / "pipe")
         for script, unseen in (
             ("include @pipe\ninclude $x\n", "pipe"),
             ("Load @pipe\nmach create\n", "pipe"),
@@ -316,17 +313,17 @@ class Followed(Following):
 
     def test_finishers(self) -> None:
         finisher = "fin: Miscellaneous.SiFiveTest @ sysbus 0x100000\n"
-        self.write({"two": 'using "p.repl"\n' + finisher, "not": f"/*\n{finisher}*/\n{RAM}{CPU}"})
+        self.put({"two": 'using "p.repl"\n' + finisher, "not": f"/*\n{finisher}*/\n{RAM}{CPU}"})
         for platform, has_one in (("p.repl", False), ("two", True), ("not", False)):
             with self.subTest(platform=platform):
-                self.write({"s.resc": EQUIPPED.replace("p.repl", platform) + "Save @kept\n", "on.resc": "Load @kept\n"})
-                subprocess.run([lab(), "run", "s.resc"], cwd=self.folder, check=True)
-                self.assertEqual(finishers.has_finisher("s.resc", self.folder), has_one)
-                self.assertEqual(finishers.has_finisher("on.resc", self.folder), has_one)
+                self.put({"s.resc": EQUIPPED.replace("p.repl", platform) + "Save @kept\n", "on.resc": "Load @kept\n"})
+                subprocess.run([lab(), "run", "s.resc"], cwd=self.room, check=True)
+                self.assertEqual(reads.has_finisher("s.resc", self.room), has_one)
+                self.assertEqual(reads.has_finisher("on.resc", self.room), has_one)
 
     def test_commands_have_their_variables_replaced(self) -> None:
         """Macros and included files stand in their places, and nothing after `quit`."""
-        self.write({"i.resc": "$n=old\nmach create $n\n"})
+        self.put({"i.resc": "$n=old\nmach create $n\n"})
         script = '$p=@p.repl\nmacro m\n"""\nmachine LoadPlatformDescription $p\n"""\ninclude @i.resc\nrunMacro $m\n'
         ends: Dict[str, List[str]] = {
             "": [],
@@ -343,11 +340,10 @@ class Followed(Following):
     def test_macros_that_would_never_end(self) -> None:
         """Eight macros of ten lines, each of which runs the next: lab takes 100,000 commands of 10^8."""
         macros = [f'macro m{n}\n"""\n' + f"runMacro $m{n + 1}\n" * 10 + '"""\n' for n in range(1, 8)]
-        script = "".join(macros) + 'macro m8\n"""\n' + "pause\n" * 10 + '"""\nrunMacro $m1\n'
-        self.assertEqual(self.told(script), ("s.resc:90", "S12 commands"))
-        self.assertEqual(difference("s.resc", self.folder), "")
+        self.write("s.resc", "".join(macros) + 'macro m8\n"""\n' + "pause\n" * 10 + '"""\nrunMacro $m1\n')
+        self.assertEqual(difference("s.resc", self.room), "")
         with self.assertRaisesRegex(run_until.NoRun, "lab refused .*/s.resc:90: S12 commands"):
-            run_until.steps_of(str(self.folder / "s.resc"))
+            run_until.steps_of(str(self.room / "s.resc"))
 
 
 # scripts that go on from the snapshot of a board `a` of two processors and a board `b` without a platform, and how they
@@ -368,13 +364,13 @@ class Resumed(Following):
     """Scripts that begin with the snapshot of another one."""
 
     def test_rules(self) -> None:
-        self.write({"keep.resc": "mach create a\nmachine LoadPlatformDescription @two\nmach create b\nSave @kept\n"})
-        subprocess.run([lab(), "run", "keep.resc"], cwd=self.folder, check=True)
+        self.put({"keep.resc": "mach create a\nmachine LoadPlatformDescription @two\nmach create b\nSave @kept\n"})
+        subprocess.run([lab(), "run", "keep.resc"], cwd=self.room, check=True)
         for script, refused in RESUMED:
             with self.subTest(script=script):
                 told = self.told("Load @kept\n" + script)
                 self.assertEqual(told, ("s.resc:" + refused.split()[0], refused.split(" ", 1)[1]) if refused else None)
-                self.assertEqual(difference("s.resc", self.folder), "")
+                self.assertEqual(difference("s.resc", self.room), "")
 
 
 # ---- the program itself
@@ -409,18 +405,29 @@ def ended(script: str, folder: pathlib.Path, word: str, is_traced: bool) -> Ende
     return Ended(ran.returncode, (found[1], found[2]) if found else None, names if is_traced else None)
 
 
+def told_by(reading: reads.Reading) -> Optional[Tuple[str, str]]:
+    """The place and the cause of a refusal."""
+    return (reading.refusal.place, reading.refusal.cause) if reading.refusal else None
+
+
+def compared(script: str, folder: pathlib.Path, word: str, is_traced: bool) -> Tuple[Ended, reads.Reading]:
+    """How the program ends, and the reading, which watches the line that the program refuses."""
+    program = ended(script, folder, word, is_traced)
+    return program, reads.follow(script, folder, watched=program.refusal[0] if program.refusal else "")
+
+
 def difference(script: str, folder: pathlib.Path, is_traced: bool = False) -> str:
     """How the reading of a script differs from what the program does, or nothing. What depends on the lab time is seen
     by a run alone."""
-    reading = reads.follow(script, folder)
-    told = (reading.refusal.place, reading.refusal.cause) if reading.refusal else None
-    by_time = told is not None and told[1] == "S21 occupied"
-    program = ended(script, folder, "run" if by_time else "check", is_traced)
+    program, reading = compared(script, folder, "check", is_traced)
+    if reading.refusal and reading.refusal.cause == "S21 occupied":
+        program, reading = compared(script, folder, "run", is_traced)
+    told = told_by(reading)
     paths = [file.path for file in reading.files]
     there = [file.is_there for file in reading.files]
     if program.refusal and LATER.match(program.refusal[1]):
         is_other = told is not None and told[0] == program.refusal[0] and told != program.refusal
-        is_same = is_reached(*program.refusal, script, folder) and not is_other
+        is_same = is_reached(*program.refusal, reading) and not is_other
         paths = paths if program.opened is None else paths[: len(program.opened)]
     elif program.status in (4, 6):
         is_same = not all(there)
@@ -431,9 +438,8 @@ def difference(script: str, folder: pathlib.Path, is_traced: bool = False) -> st
     return "" if is_same else f"{program}, but {told} after {paths}"
 
 
-def is_reached(place: str, cause: str, script: str, folder: pathlib.Path) -> bool:
+def is_reached(place: str, cause: str, reading: reads.Reading) -> bool:
     """Whether a reading comes to a line that the program refuses by a cause that is not looked for."""
-    reading = reads.follow(script, folder, watched=place)
     is_read = place.rpartition(":")[0] in [file.path for file in reading.files]
     return is_read if cause.startswith("P") else bool(reading.scenes)
 
@@ -445,12 +451,12 @@ def differences(find: Callable[[pathlib.Path, int], Iterable[str]], count: int) 
         with tempfile.TemporaryDirectory(prefix="lab-reads-") as name:
             return [f"{number}: {told}" for told in find(pathlib.Path(name), number) if told]
 
-    with concurrent.futures.ThreadPoolExecutor(len(os.sched_getaffinity(0))) as workers:
+    with concurrent.futures.ThreadPoolExecutor(trials.lanes()) as workers:
         return [told for trial in workers.map(found, range(count)) for told in trial]
 
 
 @unittest.skipUnless(shutil.which("strace"), "the files that the program opens, without strace")
-class Opened(InFolder):
+class Opened(Room):
     """The files that the program opens."""
 
     def test_demos(self) -> None:
@@ -468,15 +474,12 @@ class Opened(InFolder):
             script = self.script_of(run)
             if script is None:
                 continue
-            shutil.rmtree(folder)
-            put(folder, run.files)
+            trials.furnish(str(folder), run.files)
             told = difference(script, folder, True)
             yield f"{path.stem}, run {number}: {told}" if told else ""
             if b"Save " in run.files[script]:
                 subprocess.run([lab(), "run", script], cwd=folder, stdout=subprocess.DEVNULL)
-                run.files.update(
-                    {str(it.relative_to(folder)): it.read_bytes() for it in folder.rglob("*") if it.is_file()}
-                )
+                run.files.update(trials.files_in(str(folder)))
 
     def script_of(self, run: cases.Run) -> Optional[str]:
         """The script that is run over these files, or None where that is none or a file is large."""
@@ -486,11 +489,11 @@ class Opened(InFolder):
 
     def test_a_project_with_missing_files(self) -> None:
         """Each file of a project is taken away in turn, the last one first."""
-        self.write({**PROJECT, "boards/uart.repl": RAM + CPU, "boards/base.repl": 'using "boards/uart.repl"\n'})
-        for file in reversed(reads.files_read("test.resc", self.folder)):
+        self.put({**PROJECT, "boards/uart.repl": RAM + CPU, "boards/base.repl": 'using "boards/uart.repl"\n'})
+        for file in reversed(reads.files_read("test.resc", self.room)):
             with self.subTest(without=file.path):
-                (self.folder / file.path).unlink(missing_ok=True)
-                self.assertEqual(difference("test.resc", self.folder, True), "")
+                (self.room / file.path).unlink(missing_ok=True)
+                self.assertEqual(difference("test.resc", self.room, True), "")
 
 
 class Damaged(unittest.TestCase):
@@ -506,7 +509,7 @@ class Damaged(unittest.TestCase):
             laboratory = chance.choice(laboratories)
             script = next(word for word in laboratory.words[1:] if word in laboratory.files)
             held = self.damaged(laboratory.files, chance)
-            put(folder, {**laboratory.files, **held})
+            trials.put(str(folder), {**laboratory.files, **held})
             told = difference(script, folder)
             yield f"{laboratory.name}, {', '.join(held)}: {told}" if told else ""
 

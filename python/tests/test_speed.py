@@ -9,12 +9,12 @@ import subprocess
 import sys
 import tempfile
 import unittest
-from typing import Dict, Tuple
+from typing import Tuple
 
 from labdev import speed_loads, trials
 from labtools.boards import machine, snapshot
 from labtools.common.program import TOP, path_of_program
-from tests import tools
+from tests.commands import Room
 
 # What stands in for valgrind: a run has 5,000,000 machine instructions and 7,350 for each microsecond, and prints two
 # bytes for each; `gen` has 148,000,000 and prints nothing.
@@ -136,21 +136,14 @@ class Workloads(unittest.TestCase):
         self.assertEqual(run_lab(long.run(3))[1].splitlines()[0], f"[0.000000] m0/uart: {'A' * 30}")
 
 
-class Tables(unittest.TestCase):
-    def setUp(self) -> None:
-        folder = tempfile.TemporaryDirectory(prefix="lab-tests-speed-")
-        self.addCleanup(folder.cleanup)
-        self.room = pathlib.Path(folder.name)
-
+class Tables(Room):
     def stand_in(self, text: str) -> None:
-        path = self.room / "valgrind"
-        path.write_text(text)
-        path.chmod(0o755)
+        self.write("valgrind", text, 0o755)
 
     def speed(self, *words: str) -> Tuple[int, str, str]:
         # The stand-in for valgrind runs no program; it has to be one all the same.
-        env: Dict[str, str] = {**os.environ, "PATH": str(self.room), "LAB": sys.executable}
-        ran = tools.call(TOP / "tools/speed", *words, cwd=self.room, env=env)
+        env = {**self.environment, "PATH": str(self.room), "LAB": sys.executable}
+        ran = self.ran(TOP / "tools/speed", *words, env=env)
         return ran.returncode, ran.stdout, ran.stderr
 
     def test_counts_are_parted_by_the_work_between_two_lengths(self) -> None:
@@ -177,8 +170,8 @@ class Tables(unittest.TestCase):
     def test_counts_are_kept_and_compared(self) -> None:
         self.stand_in(VALGRIND)
         self.assertEqual(self.speed("--keep", "kept", "gen/1", "jumps/plain")[0], 0)
-        self.assertEqual(json.loads((self.room / "kept").read_text()), {"jumps/plain": 73.5, "gen/1": 148.0})
-        (self.room / "earlier").write_text('{"jumps/plain": 98.0}')
+        self.assertEqual(json.loads(self.read("kept")), {"jumps/plain": 73.5, "gen/1": 148.0})
+        self.write("earlier", '{"jumps/plain": 98.0}')
         text = self.speed("--against", "earlier", "gen/1", "jumps/plain")[1]
         self.assertIn("| `jumps` | 73.5 (98.0, -25.0 %) |\n", text)
         self.assertIn("| `gen/1` | 148 | slot |\n", text)
@@ -199,7 +192,7 @@ class Tables(unittest.TestCase):
         status, text, told = self.speed("--keep", "kept", "gen/1", "print/lines")
         self.assertEqual((status, text), (1, ""))
         self.assertIn("print/lines: the longer run has no more work", told)
-        self.assertEqual(json.loads((self.room / "kept").read_text()), {"gen/1": 148.0})
+        self.assertEqual(json.loads(self.read("kept")), {"gen/1": 148.0})
 
     def test_words_that_are_wrong(self) -> None:
         self.stand_in(VALGRIND)

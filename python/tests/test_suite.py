@@ -9,7 +9,6 @@ from typing import Any, List
 from labtools.common.program import TOP
 from tests.suite_projects import DEMO_LINES, NO_VERDICT, SUITE, Project, WithLab, without_seconds
 
-
 DATA = TOP / "python/tests/data/project"
 
 DEMO_TOLD = """\
@@ -33,7 +32,7 @@ class OwnProject(Project):
     def setUp(self) -> None:
         super().setUp()
         for part in "boards", "firmware", "tests":
-            shutil.copytree(DATA / part, self.folder / part)
+            shutil.copytree(DATA / part, self.room / part)
 
     def expected(self, name: str) -> str:
         return (DATA / "expected" / name).read_text(encoding="utf-8")
@@ -45,14 +44,14 @@ class OwnProject(Project):
 
     def test_firmware_that_is_built_anew(self) -> None:
         tests = ["tests/later.resc", "tests/talk.resc"]
-        self.assertEqual(self.call(SUITE, *tests).returncode, 0)
-        image = self.folder / "firmware/talk.bin"
+        self.assertEqual(self.ran(SUITE, *tests).returncode, 0)
+        image = self.room / "firmware/talk.bin"
         # addi x7, x0, 100 in place of addi x7, x0, 102
         image.write_bytes(image.read_bytes().replace(b"\x93\x03\x60\x06", b"\x93\x03\x40\x06"))
         self.expect(tests, 1, self.expected("lines_rebuilt"), self.expected("told_rebuilt"))
 
     def test_logs_of_a_project_are_kept(self) -> None:
-        for log in (self.folder / "tests").glob("*.log"):
+        for log in (self.room / "tests").glob("*.log"):
             log.unlink()
         tests = [f"tests/{name}.resc" for name in ("bus", "later", "talk", "waits")]
         lines = [f"passed  T s  {test}: the log has {count} lines now\n" for test, count in zip(tests, (4, 2, 2, 1))]
@@ -67,7 +66,7 @@ class Demos(WithLab):
 
     def booting(self) -> List[str]:
         """What a call of two tests that come after another script tells of it."""
-        ran = self.call(SUITE, "demo/suite/booted.resc", "demo/suite/rounds.resc")
+        ran = self.ran(SUITE, "demo/suite/booted.resc", "demo/suite/rounds.resc")
         self.assertEqual(ran.returncode, 0, ran.stdout)
         return ran.stderr.splitlines()
 
@@ -80,7 +79,7 @@ class Demos(WithLab):
 
     def test_a_script_is_run_again_where_a_file_has_changed(self) -> None:
         self.booting()
-        image = self.folder / "demo/hub/ping.bin"
+        image = self.room / "demo/hub/ping.bin"
         image.touch()
         self.assertEqual(self.booting(), [])
         image.write_bytes(image.read_bytes() + bytes(4))
@@ -90,23 +89,23 @@ class Demos(WithLab):
 
     def test_a_script_is_run_again_where_its_snapshot_is_another_one(self) -> None:
         self.booting()
-        (self.folder / "demo/suite/booted.snap").unlink()
+        (self.room / "demo/suite/booted.snap").unlink()
         self.assertEqual(self.booting(), [f"{AGAIN}: there is no demo/suite/booted.snap"])
         self.write("demo/suite/booted.snap", "LABSNAP1")
         self.assertEqual(self.booting(), [f"{AGAIN}: demo/suite/booted.snap has changed"])
 
     def test_other_firmware_is_not_tested_by_an_old_snapshot(self) -> None:
         self.booting()
-        image = self.folder / "demo/hub/pong.bin"
+        image = self.room / "demo/hub/pong.bin"
         image.write_bytes(image.read_bytes().replace(b"pong", b"PONG"))
-        ran = self.call(SUITE, "demo/suite/booted.resc")
+        ran = self.ran(SUITE, "demo/suite/booted.resc")
         self.assertEqual(ran.returncode, 1)
         self.assertIn("\n  -[0.000356] pong/uart: pong\n  +[0.000356] pong/uart: PONG\n", ran.stderr)
 
     def test_two_suites_run_a_script_once(self) -> None:
         words = [SUITE, "demo/suite/booted.resc", "demo/suite/rounds.resc"]
         both = [
-            subprocess.Popen(words, cwd=self.folder, stdout=subprocess.PIPE, stderr=subprocess.PIPE, text=True)
+            subprocess.Popen(words, cwd=self.room, stdout=subprocess.PIPE, stderr=subprocess.PIPE, text=True)
             for _ in range(2)
         ]
         told = [suite.communicate(timeout=300)[1] for suite in both]
@@ -139,12 +138,12 @@ class Demos(WithLab):
         self.write("c.resc", "# suite: after a.resc\n")
         self.write("c.log", "1\n")
         cause = "a.resc, before it: b.resc, before it: it comes after a.resc, which comes after it"
-        with open(self.folder / "b.sums", "a+") as record:
+        with open(self.room / "b.sums", "a+") as record:
             fcntl.flock(record, fcntl.LOCK_EX)
             self.expect(["c.resc"], 2, f"error  T s  c.resc: {cause}\n0 passed, 1 failed\n", "")
 
     def test_a_script_that_fails_is_told_of_each_test(self) -> None:
-        (self.folder / "demo/hub/ping.bin").unlink()
+        (self.room / "demo/hub/ping.bin").unlink()
         cause = "demo/suite/boot.resc, before it: lab ended with 4: a file could not be read, demo/hub/ping.bin"
         place = "(demo/suite/boards.resc:6)"
         lines = "".join(f"error  T s  demo/suite/{name}.resc: {cause} {place}\n" for name in ("booted", "rounds"))
@@ -157,7 +156,7 @@ class Demos(WithLab):
     def test_a_script_that_others_come_after_may_be_a_test(self) -> None:
         booted = "".join(self.read("demo/hub/output").splitlines(keepends=True)[:3])
         self.write("demo/suite/boot.log", booted)
-        ran = self.call(SUITE, "demo/suite")
+        ran = self.ran(SUITE, "demo/suite")
         self.assertIn("passed", ran.stdout.splitlines()[0])
         self.assertEqual(ran.stdout.splitlines()[-1], "6 passed, 1 failed")
 
@@ -167,7 +166,7 @@ class Demos(WithLab):
         warning = f"test.log {NO_VERDICT}\n"
         for platform, wanted in {"pass": f"suite: {warning}", "hello": ""}.items():
             self.write("boot.resc", script.format(platform))
-            told = self.call(SUITE, "--update", "test.resc").stderr
+            told = self.ran(SUITE, "--update", "test.resc").stderr
             self.assertEqual("".join(line for line in told.splitlines(True) if "boot.resc" not in line), wanted)
 
 
@@ -189,7 +188,7 @@ class Servers(WithLab):
 
     def try_lines(self, lines: str) -> None:
         """Runs the lines of a job, which end with 1 since a test fails, and have written their results."""
-        ran = self.call("bash", "-e", "-c", lines)
+        ran = self.ran("bash", "-e", "-c", lines)
         self.assertEqual((without_seconds(ran.stdout), ran.returncode), (DEMO_LINES, 1), ran.stderr)
         self.assertIn('<testsuites tests="6" failures="1" errors="0"', self.read("suite.xml"))
 
@@ -204,14 +203,14 @@ class Servers(WithLab):
 
     def test_make(self) -> None:
         self.needs("make")
-        ran = self.call("make", "-s", "-f", "demo/suite/Makefile", "check")
+        ran = self.ran("make", "-s", "-f", "demo/suite/Makefile", "check")
         self.assertEqual((without_seconds(ran.stdout), ran.returncode), (DEMO_LINES, 2), ran.stderr)
 
     def test_ctest(self) -> None:
         self.needs("cmake", "ctest")
-        made = self.call("cmake", "-S", "demo/suite", "-B", "build", "-D", f"LAB_HOME={TOP}")
+        made = self.ran("cmake", "-S", "demo/suite", "-B", "build", "-D", f"LAB_HOME={TOP}")
         self.assertEqual(made.returncode, 0, made.stderr)
-        ran = self.call("ctest", "--test-dir", "build", "-j", "2")
+        ran = self.ran("ctest", "--test-dir", "build", "-j", "2")
         results = sorted(re.findall(r"Test +#\d+: (\S+) \.+[ *]*(\w+)", ran.stdout))
         passed = [f"demo/suite/{name}" for name in ("booted", "hello", "rounds", "sum", "talk")]
         self.assertEqual(results, [*((it, "Passed") for it in passed), ("demo/suite/wrong_sum", "Failed")])
@@ -221,7 +220,7 @@ class Servers(WithLab):
         statuses = []
         for number in range(3):
             self.environment.update({name: value.split()[number] for name, value in variables.items()})
-            statuses.append(self.call("bash", "-e", "-c", lines).returncode)
+            statuses.append(self.ran("bash", "-e", "-c", lines).returncode)
         self.assertEqual(statuses, [0, 0, 1])
 
     def test_gitlab(self) -> None:
@@ -248,7 +247,7 @@ class Servers(WithLab):
 
     def test_parallel(self) -> None:
         self.needs("parallel")
-        self.environment["HOME"] = str(self.folder)
+        self.environment["HOME"] = str(self.room)
         self.try_lines("demo/suite/parallel.sh")
         costs = r"suite: shard (\d)/3: 2 tests, \d+\.\d\d s, its largest process \d+ KB"
         self.assertEqual(sorted(re.findall(costs, self.read("suite.txt"))), ["1", "2", "3"])

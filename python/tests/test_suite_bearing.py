@@ -10,7 +10,6 @@ from typing import Callable
 
 from tests.suite_projects import EXPECT, SUITE, Bearing, is_ended, opened_by, wait_for
 
-
 FIFO = "it is a FIFO, not a plain file"
 FOLDER = "it is a folder, not a plain file"
 DEVICE = "it is a device, not a plain file"
@@ -23,16 +22,16 @@ class Files(Bearing):
         for name in "abcdefgh":
             self.make(name, "1\n", "1\n")
         for name in "a.resc", "b.log", "c.resc", "d.log", "e.log", "f.log", "g.resc", "h.log":
-            (self.folder / name).unlink()
-        os.mkfifo(self.folder / "a.resc")
-        os.mkfifo(self.folder / "b.log")
-        (self.folder / "c.resc").mkdir()
-        (self.folder / "d.log").mkdir()
-        (self.folder / "e.log").symlink_to("/dev/zero")
+            (self.room / name).unlink()
+        os.mkfifo(self.room / "a.resc")
+        os.mkfifo(self.room / "b.log")
+        (self.room / "c.resc").mkdir()
+        (self.room / "d.log").mkdir()
+        (self.room / "e.log").symlink_to("/dev/zero")
         with socket.socket(socket.AF_UNIX) as made:
-            made.bind(str(self.folder / "f.log"))
-        (self.folder / "g.resc").symlink_to("/dev/zero")
-        (self.folder / "h.log").symlink_to("none")
+            made.bind(str(self.room / "f.log"))
+        (self.room / "g.resc").symlink_to("/dev/zero")
+        (self.room / "h.log").symlink_to("none")
         names = {
             "a.resc": f"a.resc cannot be read: {FIFO}",
             "b.resc": f"b.log cannot be read: {FIFO}",
@@ -45,18 +44,18 @@ class Files(Bearing):
         }
         self.errors(names)
         del names["h.resc"]
-        (self.folder / "h.resc").unlink()
+        (self.room / "h.resc").unlink()
         self.errors(names, "--update")
         self.expect(["a.resc"], 2, f"error  T s  a.resc: {names['a.resc']}\n0 passed, 1 failed\n", "")
 
     def test_what_comes_before_a_test_is_a_plain_file_too(self) -> None:
-        os.mkfifo(self.folder / "pipe")
+        os.mkfifo(self.room / "pipe")
         self.make("a", "1\n", "1\n", "# suite: after pipe\n")
         self.make("b", "1\n", "1\n", "# suite: after boot.resc\n")
         self.make("boot", None, "", "include @pipe\n")
         self.make("c", "1\n", "1\n", "# suite: after c_boot.resc\n")
         self.make("c_boot", None, "", "")
-        os.mkfifo(self.folder / "c_boot.sums")
+        os.mkfifo(self.room / "c_boot.sums")
         lines = f"error  T s  a.resc: pipe, before it: pipe cannot be read: {FIFO}\n"
         lines += f"error  T s  b.resc: boot.resc, before it: pipe cannot be read: {FIFO}\n"
         lines += f"error  T s  c.resc: c_boot.resc, before it: c_boot.sums cannot be read: {FIFO}\n"
@@ -65,8 +64,8 @@ class Files(Bearing):
     def test_a_file_that_is_too_long_is_told(self) -> None:
         self.make("a", "1\n", "1\n")
         self.make("b", "1\n", "1\n")
-        os.truncate(self.folder / "a.resc", 2**24 + 1)
-        os.truncate(self.folder / "b.log", 2**40)
+        os.truncate(self.room / "a.resc", 2**24 + 1)
+        os.truncate(self.room / "b.log", 2**40)
         cause = "b.log has more than 100000000 bytes, which --most allows a test to print"
         self.errors({"a.resc": "a.resc cannot be read: it has more than 16777216 bytes", "b.resc": cause})
 
@@ -84,7 +83,7 @@ class Signals(Bearing):
                 status = suite.wait(240)
             finally:
                 suite.kill()
-        self.assertEqual((status, list(self.room.iterdir())), (130, []))
+        self.assertEqual((status, list(self.temporary.iterdir())), (130, []))
 
     def test_a_signal_ends_a_suite_and_its_runs(self) -> None:
         self.make("a", "1\n", "1\n")
@@ -96,10 +95,10 @@ class Signals(Bearing):
     def test_a_signal_ends_a_suite_that_waits_for_another_one(self) -> None:
         self.make("a", "1\n", "1\n", "# suite: after boot.resc\n")
         self.make("boot", None, "")
-        with open(self.folder / "boot.sums", "a+") as record:
+        with open(self.room / "boot.sums", "a+") as record:
             fcntl.flock(record, fcntl.LOCK_EX)
             for number in signal.SIGTERM, signal.SIGHUP, signal.SIGINT:
-                self.ends(number, lambda process: str(self.folder / "boot.sums") in opened_by(process))
+                self.ends(number, lambda process: str(self.room / "boot.sums") in opened_by(process))
 
     def test_a_suite_that_is_killed_leaves_no_folder(self) -> None:
         self.make("a", "1\n", "1\n")
@@ -107,7 +106,7 @@ class Signals(Bearing):
         with self.begin(".") as suite:
             wait_for(lambda: bool(self.read("a.resc.waits")))
             suite.kill()
-        wait_for(lambda: not list(self.room.iterdir()))
+        wait_for(lambda: not list(self.temporary.iterdir()))
         os.kill(int(self.read("a.resc.waits")), signal.SIGKILL)
 
 
@@ -118,16 +117,16 @@ class Damage(Bearing):
         for sums in b"\xff\xfe\n", b"release of May\n", b"0" * 64 + b"  a\0b\n", b"0" * 64 + b"  boot.resc":
             self.make("a", "1\n", "1\n", "# suite: after boot.resc\n")
             self.make("boot", None, "")
-            (self.folder / "boot.sums").write_bytes(sums)
+            (self.room / "boot.sums").write_bytes(sums)
             cause = "boot.sums is not a list of sums: remove it, and the script is run again"
             self.errors({"a.resc": f"boot.resc, before it: {cause}"})
-            self.assertEqual((self.folder / "boot.sums").read_bytes(), sums)
+            self.assertEqual((self.room / "boot.sums").read_bytes(), sums)
 
     def test_a_time_or_a_number_that_nobody_can_wait_for_is_refused(self) -> None:
         self.make("a", "1\n", "1\n")
         self.write("a.resc.waits", "")
         for words in ["--timeout", "1e300"], ["--timeout", "nan"], ["--most", "0"], ["--most", "9" * 5000]:
-            ran = self.call(SUITE, *words, ".")
+            ran = self.ran(SUITE, *words, ".")
             self.assertEqual((ran.stdout, ran.returncode, self.read("a.resc.waits")), ("", 2, ""))
             self.assertIn("usage: tools/suite [-j N] [--junit FILE]", ran.stderr)
 
@@ -149,13 +148,13 @@ class Keeping(Bearing):
     def test_a_log_is_replaced_as_a_whole_or_not_at_all(self) -> None:
         mounts = ["unshare", "-m" if os.geteuid() == 0 else "-rm"]
         mount = 'mount -t tmpfs -o size=28k none "$PWD/disk" && cd "$PWD/disk"'
-        (self.folder / "disk").mkdir()
-        if not shutil.which("unshare") or self.call(*mounts, "sh", "-c", mount).returncode != 0:
+        (self.room / "disk").mkdir()
+        if not shutil.which("unshare") or self.ran(*mounts, "sh", "-c", mount).returncode != 0:
             self.skipTest("a full disk, without the right to mount")
         self.make("a", None, "2\n" * 8000)
         for keeps, status in (f'"{SUITE}" --update a.resc', 2), (f'"{EXPECT}" --bless a.resc a.log', 73):
             tries = f"{mount} && cp ../a.resc* . && echo 1 >a.log && {{ {keeps} >&2; echo $?; ls -A; cat a.log; }}"
-            ran = self.call(*mounts, "sh", "-c", tries)
+            ran = self.ran(*mounts, "sh", "-c", tries)
             self.assertEqual(ran.stdout, f"{status}\na.log\na.resc\na.resc.prints\n1\n", ran.stderr)
             self.assertIn("No space left on device", ran.stderr)
 
@@ -163,20 +162,20 @@ class Keeping(Bearing):
         for keeps in [SUITE, "--update", "a.resc"], [EXPECT, "--bless", "a.resc", "a.log"]:
             self.make("a", None, "2\n")
             self.write("logs/a.log", "1\n")
-            (self.folder / "logs/a.log").chmod(0o640)
-            if not (self.folder / "a.log").exists():
-                (self.folder / "a.log").symlink_to("logs/a.log")
-            self.assertEqual(self.call(*keeps).returncode, 0)
-            self.assertTrue((self.folder / "a.log").is_symlink())
+            (self.room / "logs/a.log").chmod(0o640)
+            if not (self.room / "a.log").exists():
+                (self.room / "a.log").symlink_to("logs/a.log")
+            self.assertEqual(self.ran(*keeps).returncode, 0)
+            self.assertTrue((self.room / "a.log").is_symlink())
             self.assertEqual(self.read("logs/a.log"), "2\n")
-            self.assertEqual((self.folder / "logs/a.log").stat().st_mode & 0o777, 0o640)
+            self.assertEqual((self.room / "logs/a.log").stat().st_mode & 0o777, 0o640)
 
     def test_a_log_is_no_front_of_the_new_one_at_any_time(self) -> None:
         """Whoever has opened the old log goes on reading it: its file is not written."""
         for keeps in [SUITE, "--update", "a.resc"], [EXPECT, "--bless", "a.resc", "a.log"]:
             self.make("a", "1\n", "2\n")
-            with open(self.folder / "a.log", encoding="ascii") as old:
-                self.assertEqual(self.call(*keeps).returncode, 0)
+            with open(self.room / "a.log", encoding="ascii") as old:
+                self.assertEqual(self.ran(*keeps).returncode, 0)
                 self.assertEqual((old.read(), self.read("a.log")), ("1\n", "2\n"))
 
 
@@ -212,7 +211,7 @@ class Befores(Bearing):
                 self.make(f"{name}{level}", None, "", after * 2)
         self.make("a", "1\n", "1\n", "# suite: after b19.resc\n# suite: after c19.resc\n")
         order = [f"suite: {name}{level}.resc is run first\n" for level in range(20) for name in "bc"]
-        ran = self.call(SUITE, "a.resc")
+        ran = self.ran(SUITE, "a.resc")
         self.assertEqual((ran.returncode, sorted(ran.stderr.splitlines(True))), (0, sorted(order)))
 
     def chain(self, count: int) -> None:
@@ -246,12 +245,12 @@ class Names(Bearing):
         tap = "TAP version 14\n1..1\nok 1 - a\\\\x0aok 2 - b.resc\n  ---\n  duration_ms: T\n  ...\n"
         tap += "# 1 passed, 0 failed\n"
         self.expect(["--tap", "."], 0, tap, "")
-        self.call(SUITE, "--junit", "told.xml", ".")
+        self.ran(SUITE, "--junit", "told.xml", ".")
         self.assertIn('name="a\\x0aok 2 - b" file="a\\x0aok 2 - b.resc"', self.read("told.xml"))
 
     def test_texts_end_no_block_of_tap(self) -> None:
         self.make("a", "1\x85...\u2028...\u2029...\n", "2\x1b[31m\n")
-        told = self.call(SUITE, "--tap", ".").stdout
+        told = self.ran(SUITE, "--tap", ".").stdout
         self.assertIn("\n    -1\\x85...\\u2028...\\u2029...\n    +2\\x1b[31m\n", told)
         self.assertTrue(all(sign.isprintable() or sign == "\n" for sign in told))
 

@@ -1,7 +1,6 @@
 """Tests of a suite that print much."""
 from tests.suite_projects import SUITE, Bearing, is_ended
 
-
 # Prints accesses where nothing stands until nobody reads them, or, by its last line, something else.
 POLL = "[0.000001] m0/sysbus: read 4 at 0x90000000"
 FLOOD = """#!/bin/sh
@@ -25,7 +24,7 @@ class Printing(Bearing):
             failed = f"failed  T s  a.resc: printed more than 100000 bytes{cause}\n0 passed, 1 failed\n"
             self.expect(["--most", "100000", "."], 1, failed)
             self.assertTrue(is_ended(int(self.read("a.resc.process"))))
-            self.assertEqual(list(self.room.iterdir()), [])
+            self.assertEqual(list(self.temporary.iterdir()), [])
 
     def test_accesses_that_do_not_come_again_are_no_poll(self) -> None:
         lines = [f"[0.000001] m0/sysbus: write 4 at 0x{9 * 2**28 + 4 * it:08x} value 0x00000000\n" for it in range(99)]
@@ -44,7 +43,7 @@ class Printing(Bearing):
         line = "failed  T s  a.resc: printed more than 9 bytes\n0 passed, 1 failed\n"
         self.expect(["--most", "9", "--update", "."], 1, line)
         self.assertEqual(self.read("a.log"), "1\n")
-        told = self.call(SUITE, "--help").stdout
+        told = self.ran(SUITE, "--help").stdout
         self.assertIn("--most BYTES  ends a test that prints more; 100000000 by default", told)
 
     def test_memory_does_not_grow_with_what_tests_print(self) -> None:
@@ -70,7 +69,7 @@ class Printing(Bearing):
         lines = [f"[0.000001] m0/uart: {it}\n" for it in range(1, 200_001)]
         printed = [*lines[:149_999], "[0.000001] m0/uart: x\n", *lines[150_000:]]
         self.make("a", "".join(lines), "".join(printed))
-        told = self.call(SUITE, ".").stderr.splitlines()
+        told = self.ran(SUITE, ".").stderr.splitlines()
         lines = [f" [0.000001] m0/uart: {it}" for it in range(149_997, 150_004)]
         differs = ["-[0.000001] m0/uart: 150000", "+[0.000001] m0/uart: x"]
         hunk = ["@@ -149997,7 +149997,7 @@", *lines[:3], *differs, *lines[4:]]
@@ -79,7 +78,7 @@ class Printing(Bearing):
 
     def test_a_difference_has_an_end(self) -> None:
         self.make("a", "".join(f"kept {it}\n" for it in range(9999)), "".join(f"run {it}\n" for it in range(9999)))
-        self.call(SUITE, "--junit", "told.xml", ".")
+        self.ran(SUITE, "--junit", "told.xml", ".")
         told = self.read("told.xml")
         self.assertLess(len(told), 80_000)
         first = "@@ -1,9999 +1,9999 @@\n-kept 0\n"

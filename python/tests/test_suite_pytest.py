@@ -1,4 +1,5 @@
 """The plugin of pytest, as pytest runs it in a project of its own. It is passed over where pytest is not installed."""
+import functools
 import re
 import shutil
 import signal
@@ -92,6 +93,12 @@ emulation RunFor 0.00001
 """
 
 
+@functools.lru_cache(maxsize=None)
+def version_with_xdist() -> str:
+    """What pytest says of an option that only pytest-xdist takes."""
+    return subprocess.run([PYTEST, "-n", "0", "--version"], capture_output=True, text=True).stderr
+
+
 class Plugin(WithLab):
     """A project with tests in Python and with scripts."""
 
@@ -104,10 +111,10 @@ class Plugin(WithLab):
         self.write("bus.resc", BUS)
 
     def pytest(self, *words: str) -> "subprocess.CompletedProcess[str]":
-        return self.call(PYTEST, "-p", "labtools.pytest_plugin", "-p", "no:cacheprovider", *words)
+        return self.ran(PYTEST, "-p", "labtools.pytest_plugin", "-p", "no:cacheprovider", *words)
 
     def has_xdist(self) -> bool:
-        return "unrecognized arguments: -n" not in self.pytest("-n", "0", "--version").stderr
+        return "unrecognized arguments: -n" not in version_with_xdist()
 
     def results(self, ran: "subprocess.CompletedProcess[str]") -> Dict[str, str]:
         """How each test has ended, by the lines of -v or those of pytest-xdist."""
@@ -122,11 +129,11 @@ class Plugin(WithLab):
         return [line.partition("::")[0] for line in lines if ".resc::" in line]
 
     def test_tests_in_python(self) -> None:
-        before = sorted(it.name for it in self.folder.rglob("*") if "__pycache__" not in it.parts)
+        before = sorted(it.name for it in self.room.rglob("*") if "__pycache__" not in it.parts)
         ran = self.pytest("-v", "tests")
         self.assertEqual(set(self.results(ran).values()), {"PASSED"}, ran.stdout)
         self.assertEqual(ran.stdout.splitlines()[-1].split(" in ")[0].strip("= "), "11 passed")
-        self.assertEqual(sorted(it.name for it in self.folder.rglob("*") if "__pycache__" not in it.parts), before)
+        self.assertEqual(sorted(it.name for it in self.room.rglob("*") if "__pycache__" not in it.parts), before)
 
     def test_scripts_are_tests_where_it_is_asked_for(self) -> None:
         suite = [f"demo/suite/{it}.resc" for it in ("booted", "hello", "rounds", "sum", "talk", "wrong_sum")]
@@ -169,12 +176,12 @@ class Plugin(WithLab):
 
     def test_a_signal_ends_the_runs(self) -> None:
         self.write("stand_in", STAND_IN)
-        (self.folder / "stand_in").chmod(0o755)
-        self.environment["LAB"] = str(self.folder / "stand_in")
+        (self.room / "stand_in").chmod(0o755)
+        self.environment["LAB"] = str(self.room / "stand_in")
         self.write("a.resc.waits", "")
         self.write("tests/test_lab.py", "def test_it(lab):\n    lab.run('a.resc')\n")
         words = [sys.executable, "-c", HEED, PYTEST, "-p", "labtools.pytest_plugin", "tests"]
-        with subprocess.Popen(words, cwd=self.folder, env=self.environment, stdout=subprocess.DEVNULL) as pytest:
+        with subprocess.Popen(words, cwd=self.room, env=self.environment, stdout=subprocess.DEVNULL) as pytest:
             wait_for(lambda: bool(self.read("a.resc.waits")))
             pytest.terminate()
             self.assertEqual(pytest.wait(240), -signal.SIGTERM)
@@ -192,6 +199,6 @@ class Plugin(WithLab):
         for number in 1, 2, 3:
             words = ["--shard", f"{number}/3", f"--junitxml={number}.xml", "--lab", "tests", "demo/suite"]
             self.pytest(*words, *(["-n", "2"] if number == 2 and self.has_xdist() else []))
-        ran = self.call(SUITE, "--merge", "1.xml", "2.xml", "3.xml")
+        ran = self.ran(SUITE, "--merge", "1.xml", "2.xml", "3.xml")
         self.assertEqual((ran.returncode, ran.stdout.splitlines()[-1]), (1, "16 passed, 1 failed"), ran.stderr)
         self.assertIn("--shard: 4/3 is not K/N, with K from 1 to N", self.pytest("--shard", "4/3").stderr)

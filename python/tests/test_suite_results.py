@@ -1,12 +1,11 @@
-"""Tests of each kind, as they end, and what is told of them: by lines, JUnit and TAP. Expected texts were written by
-hand, by docs/SUITES.md and by the documents of these formats."""
+"""How tests of each kind end, and how a suite reports them: in lines, as JUnit and as TAP. The expected texts were
+written by hand, from docs/SUITES.md and the specifications of these formats."""
 import subprocess
 import sys
 import time
 from typing import Dict, Tuple
 
 from tests.suite_projects import EXPECT, NO_VERDICT, SUITE, WithStandIn, is_ended, without_seconds
-
 
 JUNIT = """\
 <?xml version='1.0' encoding='utf-8'?>
@@ -117,7 +116,7 @@ STATUSES = {
 
 
 class StandIn(WithStandIn):
-    """Tests of each kind, as they end, and what is told of them."""
+    """How tests of each kind end, and how they are reported."""
 
     def test_results(self) -> None:
         """The tests of a table are those of a folder, all of which end so."""
@@ -141,7 +140,7 @@ class StandIn(WithStandIn):
 
     def test_signs_of_tap_are_escaped(self) -> None:
         self.make("a#b\\c", "1\n", "1\n")
-        self.assertIn("ok 1 - a\\#b\\\\c.resc\n", self.call(SUITE, "--tap", ".").stdout)
+        self.assertIn("ok 1 - a\\#b\\\\c.resc\n", self.ran(SUITE, "--tap", ".").stdout)
 
     def test_results_are_told_though_they_cannot_be_written(self) -> None:
         self.make("a", "1\n", "1\n")
@@ -150,19 +149,19 @@ class StandIn(WithStandIn):
 
     def test_a_reader_that_ends_is_no_fault(self) -> None:
         self.make("a", "1\n", "1\n")
-        ran = self.call("sh", "-c", f'"{sys.executable}" "{SUITE}" . | true')
+        ran = self.ran("sh", "-c", f'"{sys.executable}" "{SUITE}" . | true')
         self.assertEqual((ran.stdout, ran.stderr), ("", ""))
 
     def test_others_may_read_the_log_that_expect_keeps(self) -> None:
         self.make("a", None, "1\n")
-        self.assertEqual(self.call("sh", "-c", f'umask 022; "{EXPECT}" --bless a.resc a.log').returncode, 0)
-        self.assertEqual((self.folder / "a.log").stat().st_mode & 0o777, 0o644)
+        self.assertEqual(self.ran("sh", "-c", f'umask 022; "{EXPECT}" --bless a.resc a.log').returncode, 0)
+        self.assertEqual((self.room / "a.log").stat().st_mode & 0o777, 0o644)
 
     def test_a_device_keeps_its_order_without_times(self) -> None:
         kept = "[0.000001] m0/uart: a\n[0.000002] m0/uart: b\n"
         self.make("a", kept, "[0.000001] m0/uart: b\n[0.000002] m0/uart: a\n", "# suite: notimes\n")
         self.finds("failed  T s  a.resc: the log differs", 1)
-        shown = self.call(SUITE, ".").stderr
+        shown = self.ran(SUITE, ".").stderr
         self.assertIn("\n  -m0/uart: a\n   m0/uart: b\n  +m0/uart: a\n", shown)
 
     def test_a_signal_is_told(self) -> None:
@@ -185,7 +184,7 @@ class StandIn(WithStandIn):
     def test_what_is_not_there_is_told(self) -> None:
         self.expect(["none"], 2, "", "suite: there is no none\n")
         for words in "", "-j 0 .", "-j x .", "--timeout -1 .", "--fast .":
-            ran = self.call(SUITE, *words.split())
+            ran = self.ran(SUITE, *words.split())
             self.assertEqual((ran.stdout, ran.returncode), ("", 2))
             self.assertIn("usage: tools/suite [-j N] [--junit FILE]", ran.stderr)
 
@@ -210,10 +209,10 @@ class StandIn(WithStandIn):
         line = "error  T s  a.resc: nothing was printed, so no log is kept\n"
         self.expect(["--update", "."], 2, f"{line}0 passed, 1 failed\n")
         self.assertEqual(self.read("a.log"), "1\n")
-        ran = self.call(EXPECT, "--bless", "a.resc", "b.log")
+        ran = self.ran(EXPECT, "--bless", "a.resc", "b.log")
         self.assertEqual(ran.returncode, 73)
         self.assertIn("nothing was printed, so no log is kept", ran.stderr)
-        self.assertFalse((self.folder / "b.log").exists())
+        self.assertFalse((self.room / "b.log").exists())
 
     def test_a_log_without_a_verdict_is_warned_of(self) -> None:
         self.write("board.repl", 'using "fin.repl"\n')
@@ -222,16 +221,16 @@ class StandIn(WithStandIn):
         warning = f"a.log {NO_VERDICT}\n"
         for prints, wanted in {"1\n": warning, "[0.000100] pause m0/fin: pass\n": ""}.items():
             self.make("a", "", prints, says)
-            self.assertEqual(self.call(SUITE, "--update", ".").stderr, wanted and f"suite: {wanted}")
-            self.assertEqual(self.call(EXPECT, "--bless", "a.resc", "a.log").stderr, wanted and f"expect: {wanted}")
+            self.assertEqual(self.ran(SUITE, "--update", ".").stderr, wanted and f"suite: {wanted}")
+            self.assertEqual(self.ran(EXPECT, "--bless", "a.resc", "a.log").stderr, wanted and f"expect: {wanted}")
         self.write("fin.repl", "// fin: Miscellaneous.SiFiveTest @ sysbus 0x100000\n")
         self.make("a", "", "1\n", says)
-        self.assertEqual(self.call(SUITE, "--update", ".").stderr, "")
+        self.assertEqual(self.ran(SUITE, "--update", ".").stderr, "")
 
     def test_a_failure_that_is_kept_is_warned_of(self) -> None:
         self.make("a", "1\n", "[0.000100] pause m0/fin: fail 3\n")
         told = "suite: a.log says that a test has failed, so later runs are expected to fail it too: "
-        self.assertEqual(self.call(SUITE, "--update", ".").stderr, f"{told}[0.000100] pause m0/fin: fail 3\n")
+        self.assertEqual(self.ran(SUITE, "--update", ".").stderr, f"{told}[0.000100] pause m0/fin: fail 3\n")
 
     def make_three(self) -> None:
         """Makes a test of each result."""
@@ -241,15 +240,15 @@ class StandIn(WithStandIn):
 
     def test_results_are_told_as_junit(self) -> None:
         self.make_three()
-        ran = self.call(SUITE, "--junit", "results.xml", "tests")
+        ran = self.ran(SUITE, "--junit", "results.xml", "tests")
         self.assertEqual(ran.returncode, 2)
         self.assertEqual(without_seconds(self.read("results.xml")), JUNIT)
-        self.assertEqual(self.call(SUITE, "--junit", "none/results.xml", "tests/low").returncode, 2)
+        self.assertEqual(self.ran(SUITE, "--junit", "none/results.xml", "tests/low").returncode, 2)
 
     def test_junit_has_the_last_20_lines(self) -> None:
         lines = [f"[0.{number:06}] m0/uart: {number}\n" for number in range(100)]
         self.make("a", "".join(lines), "".join(lines[:99]))
-        self.call(SUITE, "--junit", "results.xml", ".")
+        self.ran(SUITE, "--junit", "results.xml", ".")
         text = self.read("results.xml")
         self.assertIn("<system-out>" + "".join(lines[79:99]) + "</system-out>", text)
         self.assertIn("-[0.000099] m0/uart: 99\n\nthe last lines printed:\n" + "".join(lines[79:99]), text)
@@ -261,7 +260,7 @@ class StandIn(WithStandIn):
     def test_a_suite_that_is_interrupted_ends_its_runs(self) -> None:
         self.make("a", "1\n", "1\n")
         self.write("a.resc.waits", "")
-        with subprocess.Popen([SUITE, "."], cwd=self.folder, env=self.environment, stdout=subprocess.PIPE) as suite:
+        with subprocess.Popen([SUITE, "."], cwd=self.room, env=self.environment, stdout=subprocess.PIPE) as suite:
             while not self.read("a.resc.waits"):
                 time.sleep(0.05)
             suite.terminate()

@@ -67,7 +67,7 @@ class Shards(WithStandIn):
     def shard(self, number: int, count: int, status: int, *words: str) -> List[str]:
         """Tries a share, keeps its results as NUMBER-COUNT.xml, and returns the names of its tests."""
         told = f"{number}-{count}.xml"
-        ran = self.call(SUITE, "--shard", f"{number}/{count}", "--junit", told, *words, "tests")
+        ran = self.ran(SUITE, "--shard", f"{number}/{count}", "--junit", told, *words, "tests")
         self.assertEqual(ran.returncode, status, ran.stderr)
         names = [line.split(" s  ")[1].partition(":")[0] for line in ran.stdout.splitlines()[:-1]]
         self.assertRegex(ran.stderr.splitlines()[-1], LINE.format(f"{number}/{count}", len(names)))
@@ -82,7 +82,7 @@ class Shards(WithStandIn):
         lines = "".join(f"passed  T s  tests/{it}.resc\n" for it in "abcd")
         lines += "failed  T s  tests/e.resc: the log differs\n4 passed, 1 failed\n"
         self.expect(["--merge", "--junit", "all.xml", "3-3.xml", "1-3.xml", "2-3.xml"], 1, lines)
-        suite = ElementTree.parse(self.folder / "all.xml").getroot()
+        suite = ElementTree.parse(self.room / "all.xml").getroot()
         self.assertEqual([suite.get(it) for it in ("tests", "failures", "errors")], ["5", "1", "0"])
         self.assertIn("\n+2\n", suite.findtext(".//failure", ""))
         timed = re.sub(r'time="[^"]*"', 'time="1.000"', self.read("all.xml"))
@@ -94,15 +94,15 @@ class Shards(WithStandIn):
         self.assertEqual(self.shard(5, 5, 0), [])
         for number in 1, 2, 3, 4:
             self.shard(number, 5, number == 1)
-        ran = self.call(SUITE, "--merge", *(f"{it}-5.xml" for it in range(1, 6)))
+        ran = self.ran(SUITE, "--merge", *(f"{it}-5.xml" for it in range(1, 6)))
         self.assertEqual((ran.returncode, ran.stdout.splitlines()[-1]), (1, "4 passed, 1 failed"))
 
     def test_results_that_are_no_whole_are_told(self) -> None:
         self.shard(1, 3, 1)
         self.shard(3, 3, 0)
         self.shard(1, 2, 1)
-        self.call(SUITE, "--junit", "whole.xml", "tests")
-        self.call(SUITE, "--shard", "2/3", "--junit", "other.xml", "tests/a.resc")
+        self.ran(SUITE, "--junit", "whole.xml", "tests")
+        self.ran(SUITE, "--shard", "2/3", "--junit", "other.xml", "tests/a.resc")
         self.write("none.xml", "<testsuites/>")
         self.write("entity.xml", '<!DOCTYPE a [<!ENTITY b "c">]><testsuite>&b;</testsuite>')
         self.write("cut.xml", self.read("1-3.xml")[:300])
@@ -121,7 +121,7 @@ class Shards(WithStandIn):
             ("tests",): "tests cannot be read: it is a folder, not a plain file",
         }.items():
             self.expect(["--merge", *words], 2, "", f"suite: {told}\n")
-        self.assertIn("suite: cut.xml has no results as JUnit: ", self.call(SUITE, "--merge", "cut.xml").stderr)
+        self.assertIn("suite: cut.xml has no results as JUnit: ", self.ran(SUITE, "--merge", "cut.xml").stderr)
 
     def test_wrong_words_are_told(self) -> None:
         for words, told in {
@@ -132,6 +132,6 @@ class Shards(WithStandIn):
             ("--merge", "--shard", "1/3", "a.xml"): "--merge takes no --shard, --times or --update",
             ("--merge",): "which results?",
         }.items():
-            ran = self.call(SUITE, *words)
+            ran = self.ran(SUITE, *words)
             self.assertEqual((ran.returncode, ran.stdout), (2, ""))
             self.assertIn(told, ran.stderr)

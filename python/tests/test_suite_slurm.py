@@ -63,35 +63,35 @@ class Slurm(WithLab):
             self.skipTest("a suite in Slurm, without the rights of root")
         room = tempfile.TemporaryDirectory(prefix="lab-slurm-")
         self.addCleanup(room.cleanup)
-        self.room = pathlib.Path(room.name)
-        self.environment.update(LAB_HOME=str(TOP), SLURM_CONF=str(self.room / "slurm.conf"))
+        self.cluster = pathlib.Path(room.name)
+        self.environment.update(LAB_HOME=str(TOP), SLURM_CONF=str(self.cluster / "slurm.conf"))
         self.begin()
 
     def begin(self) -> None:
         """Starts the daemons, and waits until the node takes jobs."""
         for name in "state", "spool":
-            (self.room / name).mkdir()
+            (self.cluster / name).mkdir()
         host = socket.gethostname().partition(".")[0]
-        text = CONFIGURATION.format(host=host, room=self.room, ports=free_ports(2))
-        (self.room / "slurm.conf").write_text(text, encoding="ascii")
-        (self.room / "munge.key").write_bytes(os.urandom(1024))
-        (self.room / "munge.key").chmod(0o600)
+        text = CONFIGURATION.format(host=host, room=self.cluster, ports=free_ports(2))
+        (self.cluster / "slurm.conf").write_text(text, encoding="ascii")
+        (self.cluster / "munge.key").write_bytes(os.urandom(1024))
+        (self.cluster / "munge.key").chmod(0o600)
         files = {"key-file": "key", "socket": "socket", "pid-file": "pid", "log-file": "log", "seed-file": "seed"}
-        options = [f"--{option}={self.room}/munge.{name}" for option, name in files.items()]
+        options = [f"--{option}={self.cluster}/munge.{name}" for option, name in files.items()]
         self.daemon("munged", "--foreground", "--force", *options)
-        wait_for(lambda: (self.room / "munge.socket").exists())
+        wait_for(lambda: (self.cluster / "munge.socket").exists())
         self.daemon("slurmctld", "-D")
         self.daemon("slurmd", "-D", "-N", host)
-        wait_for(lambda: "idle" in self.call("sinfo", "-h", "-o", "%T").stdout)
+        wait_for(lambda: "idle" in self.ran("sinfo", "-h", "-o", "%T").stdout)
 
     def daemon(self, *words: str) -> None:
-        with open(self.room / f"{words[0]}.out", "wb") as told:
-            process = subprocess.Popen(words, env=self.environment, cwd=self.room, stdout=told, stderr=told)
+        with open(self.cluster / f"{words[0]}.out", "wb") as told:
+            process = subprocess.Popen(words, env=self.environment, cwd=self.cluster, stdout=told, stderr=told)
         self.addCleanup(process.wait)
         self.addCleanup(process.terminate)
 
     def test_an_array_of_jobs(self) -> None:
-        ran = self.call("sbatch", "--wait", "--array=1-3", "demo/suite/slurm.sh")
+        ran = self.ran("sbatch", "--wait", "--array=1-3", "demo/suite/slurm.sh")
         self.assertEqual(ran.returncode, 1, ran.stderr)
         results = [f"suite-{number}.xml" for number in (1, 2, 3)]
         self.expect(["--merge", "--junit", "suite.xml", *results], 1, DEMO_LINES)

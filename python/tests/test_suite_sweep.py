@@ -30,7 +30,7 @@ class Sweeps(WithLab):
     """Sweeps of demo/sweep, whose sender.s and listener.s say in which phase a byte is lost, and of a small script."""
 
     def sweep(self, *words: str) -> "subprocess.CompletedProcess[str]":
-        return self.call(SWEEP, *words)
+        return self.ran(SWEEP, *words)
 
     def told(self, *words: str) -> Tuple[int, str, str]:
         ran = self.sweep(*words)
@@ -43,13 +43,13 @@ class Sweeps(WithLab):
         self.assertIn(f"  --- phase=1\n  +++ this run\n  @@ -1 +1 @@\n{difference}", told)
         self.assertIn('<testsuites tests="50" failures="1" errors="0"', self.read("a.xml"))
         self.assertIn('classname="demo.sweep" name="s[phase=17]" file="demo/sweep/s.resc"', self.read("a.xml"))
-        self.assertEqual([it.name for it in self.folder.iterdir() if it.name != "demo"], ["a.xml"])
+        self.assertEqual([it.name for it in self.room.iterdir() if it.name != "demo"], ["a.xml"])
 
     def test_shares_of_a_sweep_are_made_one(self) -> None:
         for number in 1, 2, 3:
             words = "--shard", f"{number}/3", "--junit", f"{number}.xml", "demo/sweep/s.resc", "phase=10..20"
             self.assertEqual(self.told(*words)[0], int(number == 2))
-        ran = self.call(SUITE, "--merge", "1.xml", "2.xml", "3.xml")
+        ran = self.ran(SUITE, "--merge", "1.xml", "2.xml", "3.xml")
         self.assertEqual((ran.returncode, ran.stdout.splitlines()[-1]), (1, "10 passed, 1 failed"))
         self.assertIn("demo/sweep/s.resc[phase=17]: a test has failed", ran.stdout)
 
@@ -92,14 +92,14 @@ class Sweeps(WithLab):
         self.assertIn("the first log that differs from that of n=4: n=8\n", lines)
 
     def test_a_signal_ends_a_sweep_which_leaves_nothing(self) -> None:
-        (self.folder / "room").mkdir()
-        self.environment["TMPDIR"] = str(self.folder / "room")
+        (self.room / "room").mkdir()
+        self.environment["TMPDIR"] = str(self.room / "room")
         words = [sys.executable, "-c", HEED, sys.executable, SWEEP, "demo/sweep/s.resc", "phase=1..20000"]
-        with subprocess.Popen(words, cwd=self.folder, env=self.environment, stdout=subprocess.DEVNULL) as sweep:
-            wait_for(lambda: bool(list((self.folder / "room").glob("*/900.resc"))))
+        with subprocess.Popen(words, cwd=self.room, env=self.environment, stdout=subprocess.DEVNULL) as sweep:
+            wait_for(lambda: bool(list((self.room / "room").glob("*/900.resc"))))
             sweep.terminate()
             self.assertEqual(sweep.wait(240), 130)
-        self.assertEqual(list((self.folder / "room").iterdir()), [])
+        self.assertEqual(list((self.room / "room").iterdir()), [])
 
     def test_wrong_words_are_told(self) -> None:
         self.write("a.resc", SCRIPT)

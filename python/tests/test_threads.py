@@ -9,14 +9,14 @@ import os
 import resource
 import shutil
 import subprocess
-import tempfile
 import time
 import unittest
 from pathlib import Path
 from typing import Callable, Dict, List, NamedTuple, Optional, Sequence
 
-from labdev.speed_loads import programs
+from labdev.speed_loads import programs, run_for
 from labtools.common.program import TOP, path_of_program
+from tests.commands import IS_ROOT, Room, become_nobody
 
 SECONDS = 120
 BOARDS = 8
@@ -24,8 +24,6 @@ WORKERS = 2, 4, 8
 # Words of runs, and by how many workers each is made. The script is that of `Workers`.
 SCRIPT = "run", "s.resc"
 RUNS = [(words, workers) for words in (SCRIPT, ("gen", "7", "16")) for workers in (2, 3, 4)]
-NOBODY = 65534
-IS_ROOT = os.geteuid() == 0
 # How often a run by eight workers and one by one are compared, until the one takes no more than twice the other.
 PAIRS = 6
 # How often a run is made anew, until each of its threads has had a hundredth of a second of a processor.
@@ -65,20 +63,10 @@ def quantum(micros: int) -> str:
     return f'emulation SetGlobalQuantum "0.{micros:06}"'
 
 
-def run_for(micros: int) -> str:
-    return f'emulation RunFor "{micros // 1_000_000}.{micros % 1_000_000:06}"'
-
-
 def crowd(*lines: str) -> List[str]:
     """Returns a script of eight boards that answer each other, in rounds of a millisecond, each of 100,000 slots."""
     made = boards(["ping", "pong"] * (BOARDS // 2), "connector Connect uart hub", "showAnalyzer uart")
     return ['emulation CreateUARTHub "hub"', *made, quantum(1_000), *lines]
-
-
-def become_nobody() -> None:
-    os.setgroups([])
-    os.setgid(NOBODY)
-    os.setuid(NOBODY)
 
 
 def without_threads() -> None:
@@ -116,17 +104,15 @@ class Seen(NamedTuple):
     processors: float
 
 
-class Rooms(unittest.TestCase):
+class Rooms(Room):
     """Each test has a folder of its own with the program and the files of its boards, which anybody may read."""
 
     def setUp(self) -> None:
-        self.room = Path(tempfile.mkdtemp(prefix="lab-threads-"))
-        self.addCleanup(shutil.rmtree, self.room)
+        super().setUp()
         self.room.chmod(0o755)
         shutil.copy(path_of_program(), self.room / "lab")
         (self.room / "lab").chmod(0o755)
-        (self.room / "board.repl").write_text(PLATFORM)
-        (self.room / "additions").write_bytes(programs()["additions"].image)
+        self.put({"board.repl": PLATFORM, "additions": programs()["additions"].image})
         for name, path in IMAGES.items():
             shutil.copy(TOP / path, self.room / name)
 
@@ -134,7 +120,7 @@ class Rooms(unittest.TestCase):
         self, lines: Sequence[str], workers: int, before: Optional[Callable[[], None]] = None
     ) -> "subprocess.Popen[bytes]":
         """Begins a run of these lines by so many workers. The log goes into a file."""
-        (self.room / "s.resc").write_text("".join(f"{line}\n" for line in lines))
+        self.write("s.resc", "".join(f"{line}\n" for line in lines))
         return self.start(["run", "s.resc", "--workers", str(workers)], before)
 
     def start(self, words: Sequence[str], before: Optional[Callable[[], None]] = None) -> "subprocess.Popen[bytes]":
@@ -157,7 +143,7 @@ class Rooms(unittest.TestCase):
             most = max(most, threads_of(process))
             self.assertLess(time.monotonic(), end, "the run does not end")
             time.sleep(LOOK)
-        log = (self.room / "log").read_text()
+        log = self.read("log")
         self.assertEqual(process.returncode, 0, log[-300:])
         later = resource.getrusage(resource.RUSAGE_CHILDREN)
         return Seen(log, most, later.ru_utime + later.ru_stime - earlier.ru_utime - earlier.ru_stime)
@@ -229,10 +215,12 @@ class Workers(Rooms):
     """Runs whose boards have slots enough for as many workers as are asked for: eight boards of a script, in a hundred
     rounds of 100,000 slots each, and the sixteen of a generated laboratory, in a thousand of 1,000 slots each."""
 
+    looked: List[List[Dict[str, int]]] = []
+
     def setUp(self) -> None:
         super().setUp()
         lines = [*boards(["additions"] * BOARDS), quantum(1_000), run_for(100_000)]
-        (self.room / "s.resc").write_text("".join(f"{line}\n" for line in lines))
+        self.write("s.resc", "".join(f"{line}\n" for line in lines))
 
     def looks(self, words: Sequence[str], workers: int) -> List[Dict[str, int]]:
         """Makes a run by so many workers, which has to end well. Returns for each look at it how long each of its
@@ -244,12 +232,19 @@ class Workers(Rooms):
             looks.append(ticks_of(process))
             self.assertLess(time.monotonic(), end, "the run does not end")
             time.sleep(LOOK)
-        self.assertEqual(process.returncode, 0, (self.room / "log").read_text()[-300:])
+        self.assertEqual(process.returncode, 0, self.read("log")[-300:])
         return [look for look in looks if look]
 
+    @classmethod
+    def looks_at(cls, test: "Workers") -> List[List[Dict[str, int]]]:
+        """Returns the looks at each of the runs, which are made once for all tests."""
+        if not cls.looked:
+            cls.looked = [test.looks(words, workers) for words, workers in RUNS]
+        return cls.looked
+
     def test_a_run_has_as_many_threads_as_workers(self) -> None:
-        for words, workers in RUNS:
-            self.assertEqual(max(len(look) for look in self.looks(words, workers)), workers, words)
+        for (words, workers), looks in zip(RUNS, self.looks_at(self)):
+            self.assertEqual(max(len(look) for look in looks), workers, words)
 
     def test_a_run_has_no_more_threads_than_boards(self) -> None:
         lines = [*boards(["additions"] * 3), quantum(1_000), run_for(100_000)]
@@ -267,8 +262,7 @@ class Workers(Rooms):
 
     def test_helpers_stay_to_the_end_of_their_run(self) -> None:
         # A helper that is let go before a round, or leaves after one, is not there in nearly all others.
-        for words, workers in RUNS:
-            looks = self.looks(words, workers)
+        for (words, workers), looks in zip(RUNS, self.looks_at(self)):
             together = [frozenset(look) for look in looks if len(look) == workers]
             self.assertGreater(len(together), len(looks) / 2, words)
             self.assertEqual(len(set(together)), 1, "other threads come in place of the first")
@@ -321,13 +315,13 @@ class Ends(Rooms):
             most = max(most, threads_of(process))
             time.sleep(LOOK)
         self.assertGreater(most, 1)
-        self.assertEqual((process.returncode, (self.room / "log").read_text()), (0, alone))
+        self.assertEqual((process.returncode, self.read("log")), (0, alone))
 
     def test_no_thread_outlives_a_run_that_a_finisher_ends(self) -> None:
         lines = [*boards(["additions"] * (BOARDS - 1) + ["sum"]), quantum(1_000), run_for(1_000_000), WAIT]
         process = self.begin(lines, BOARDS)
         pipe = self.come(process)
-        self.assertEqual((self.room / "log").read_text(), "[0.001000] pause m7/fin: pass\n")
+        self.assertEqual(self.read("log"), "[0.001000] pause m7/fin: pass\n")
         self.is_alone(process)
         self.go_on(pipe)
         self.assertEqual(process.wait(SECONDS), 0)
@@ -343,7 +337,7 @@ class Ends(Rooms):
             now = ticks_of(process)
             ticks = now if len(now) == BOARDS else ticks
             time.sleep(LOOK)
-        self.assertEqual((process.returncode, (self.room / "log").read_text()), (0, ""))
+        self.assertEqual((process.returncode, self.read("log")), (0, ""))
         self.assertEqual(len(ticks), BOARDS, "the run had not as many threads as workers")
         leader = ticks.pop(str(process.pid))
         self.assertGreater(leader, 0)

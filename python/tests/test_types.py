@@ -49,9 +49,8 @@ class Types(unittest.TestCase):
     def test_mypy_finds_nothing(self) -> None:
         # What was found of a file that has not changed since is kept where builds keep theirs.
         quiet = ["--no-error-summary", "--hide-error-context", "--cache-dir", str(TOP / "out/mypy")]
-        # (Several programs outside of packages may have one name, so each is looked at by itself.)
-        for group in [["."], *([str(it)] for it in outside_packages())]:
-            self.assertEqual(self.said_by("mypy", *quiet, *group), "")
+        outside = map(str, outside_packages())
+        self.assertEqual(self.said_by("mypy", *quiet, "--scripts-are-modules", ".", *outside), "")
 
     def test_flake8_finds_nothing(self) -> None:
         self.assertEqual(self.said_by("flake8", ".", *map(str, outside_packages())), "")

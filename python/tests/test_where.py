@@ -4,13 +4,11 @@ the tests that need them are passed over.
 """
 import json
 import os
-import pathlib
 import resource
 import shutil
 import signal
 import subprocess
 import sys
-import tempfile
 import unittest
 from typing import Any, Dict, List, Tuple
 
@@ -18,9 +16,8 @@ from labdev.pythons import with_pyelftools
 from labtools.boards import machine
 from labtools.common.program import TOP
 from labtools.elf import unwind
-from tests import tools
+from tests.commands import Room
 from tests.suite_projects import HEED, is_ended, wait_for
-
 
 DATA = TOP / "python/tests/data/where"
 LAB = os.environ.get("LAB", str(TOP / "lab"))
@@ -47,18 +44,16 @@ start
 """
 
 
-class InRoom(unittest.TestCase):
+class InRoom(Room):
     """A test with a folder of its own, in which a copy of data/where stands."""
 
     def setUp(self) -> None:
-        self.room = pathlib.Path(tempfile.mkdtemp(prefix="lab-tests-where-"))
-        self.addCleanup(shutil.rmtree, self.room)
-        for path in DATA.iterdir():
-            shutil.copy(path, self.room)
+        super().setUp()
+        shutil.copytree(DATA, self.room, dirs_exist_ok=True)
 
     def run_tool(self, name: str, *words: str, **settings: str) -> Tuple[int, str, str]:
         """Returns how a script of tools/ ends, and what it prints."""
-        ran = tools.call(TOP / "tools" / name, *words, cwd=self.room, env={**os.environ, **settings}, python=PYTHON)
+        ran = self.ran(TOP / "tools" / name, *words, env={**self.environment, **settings}, python=PYTHON)
         return ran.returncode, ran.stdout, ran.stderr
 
     def where(self, *words: str, **settings: str) -> str:
@@ -74,14 +69,11 @@ class InRoom(unittest.TestCase):
     def expected(self, name: str) -> str:
         return (DATA / name).read_text()
 
-    def write(self, name: str, text: str) -> None:
-        (self.room / name).write_text(text)
-
     def keep(self, script: str) -> None:
         """Makes the snapshot `kept` of a script without its last lines."""
         lines = self.expected(script).split("quit\n")[0]
         self.write("keep.resc", f"{lines}Save @kept\n")
-        subprocess.run([LAB, "run", "keep.resc"], cwd=self.room, stdout=subprocess.DEVNULL, check=True)
+        self.assertEqual(self.ran(LAB, "run", "keep.resc").returncode, 0)
 
 
 @unittest.skipUnless(with_pyelftools(), "the reports, without pyelftools")
@@ -138,43 +130,26 @@ class Reports(InRoom):
         registers.update(ra=0x80000016, sp=0x80010000, a4=1, a5=8)
         stay = place(0x80000016, "stay", 0)
         waits = [line("wait_for_interrupt", "hart.h", 22), line("main", "answer.c", 23)]
-        self.assertEqual(
-            hart,
-            {
-                "name": "cpu",
-                "number": 0,
-                "state": "runs",
-                "pc": stay,
-                "interrupts": {"on": False, "enabled": ["external"], "pending": ["external"]},
-                "mtvec": 0x80000038,
-                "handler": place(0x80000038, "answer_to", 0x20, line("answer_to", "answer.c", 9)),
-                "last_trap": {
-                    "mcause": 0x8000000B,
-                    "words": "external interrupt",
-                    "place": place(0x800000BE, "main", 0x2A, *waits),
-                    "mtval": 0,
-                },
-                "stack": [{"place": stay, "how": "now", "is_guess": False}],
-                "registers": registers,
-                "warnings": [
-                    "mtvec is 0x80000038, two bytes before answer: it keeps no bit 1, so a handler needs aligned(4)"
-                ],
-            },
-        )
-        self.assertEqual(
-            board,
-            {
-                "name": "answerer",
-                "images": ["answer.elf"],
-                "devices": [
-                    {"name": "uart", "kind": "uart", "received": [ord("a")], "overrun": False},
-                    {"name": "can", "kind": "can", "received": [], "overrun": False},
-                ],
-                "claimed": [],
-                "sources": [],
-                "warnings": [],
-            },
-        )
+        vector = "mtvec is 0x80000038, two bytes before answer: it keeps no bit 1, so a handler needs aligned(4)"
+        trapped = place(0x800000BE, "main", 0x2A, *waits)
+        wanted = {
+            "name": "cpu",
+            "number": 0,
+            "state": "runs",
+            "pc": stay,
+            "interrupts": {"on": False, "enabled": ["external"], "pending": ["external"]},
+            "mtvec": 0x80000038,
+            "handler": place(0x80000038, "answer_to", 0x20, line("answer_to", "answer.c", 9)),
+            "last_trap": {"mcause": 0x8000000B, "words": "external interrupt", "place": trapped, "mtval": 0},
+            "stack": [{"place": stay, "how": "now", "is_guess": False}],
+            "registers": registers,
+            "warnings": [vector],
+        }
+        self.assertEqual(hart, wanted)
+        uart = {"name": "uart", "kind": "uart", "received": [ord("a")], "overrun": False}
+        can = {"name": "can", "kind": "can", "received": [], "overrun": False}
+        wanted = {"name": "answerer", "images": ["answer.elf"], "devices": [uart, can]}
+        self.assertEqual(board, {**wanted, "claimed": [], "sources": [], "warnings": []})
 
 
 # The words that sources.S reads: IER of the UART, the priority of its source, what the contexts 0 and 1 enable, the
@@ -313,14 +288,9 @@ class Controllers(InRoom):
 
 
 class Stacks(InRoom):
-    def test_two_harts_with_one_stack_are_told(self) -> None:
-        self.assertIn(
-            "  warning: cpu0 and cpu1 have one stack: sp is 0x8000ffe0 and 0x80010000; give each its own by its"
-            " mhartid, as demo/harts does\n",
-            self.where("both.resc"),
-        )
-
-    def test_two_harts_with_stacks_of_their_own_are_not(self) -> None:
+    def test_two_harts_with_one_stack_are_told_and_those_with_stacks_of_their_own_are_not(self) -> None:
+        stacks = "sp is 0x8000ffe0 and 0x80010000; give each its own by its mhartid, as demo/harts does"
+        self.assertIn(f"  warning: cpu0 and cpu1 have one stack: {stacks}\n", self.where("both.resc"))
         self.assertNotIn("have one stack", self.where("work.resc", "talker=talk.elf"))
 
 
@@ -339,22 +309,23 @@ class Times(InRoom):
         return lines[0], next(text.split()[1] for text in lines if text.startswith("    pc "))
 
     def test_a_run_is_cut_at_a_time(self) -> None:
-        self.assertEqual(self.pc_at("ask.resc", "--at", "0.000501"), ("at 0.000501", "0x8000001c"))
-        self.assertEqual(self.pc_at("ask.resc", "--at", "0.0005"), ("at 0.000500", "0x80000018"))
-        self.assertEqual(self.pc_at("ask.resc", "--at=0.000003"), ("at 0.000003", "0x8000000c"))
-        self.assertEqual(self.pc_at("ask.resc", "--at", "0.001"), ("at 0.001000", "0x80000018"))
-        self.assertEqual(
-            self.refused("ask.resc", "--at", "0.001001"), "tools/where: ask.resc: the script ends at 0.001000\n"
-        )
+        for word, time, pc in (
+            ("--at 0.000501", "0.000501", "0x8000001c"),
+            ("--at 0.0005", "0.000500", "0x80000018"),
+            ("--at=0.000003", "0.000003", "0x8000000c"),
+            ("--at 0.001", "0.001000", "0x80000018"),
+        ):
+            self.assertEqual(self.pc_at("ask.resc", *word.split()), (f"at {time}", pc))
+        told = self.refused("ask.resc", "--at", "0.001001")
+        self.assertEqual(told, "tools/where: ask.resc: the script ends at 0.001000\n")
 
     def test_a_run_that_a_finisher_ends_is_as_long_as_it_was(self) -> None:
         self.write("finisher.repl", FINISHER)
         self.write("finishing.resc", FINISHING)
         # the first run ends at 0.0001, the second lasts to 0.0011, and `start` runs to the time of --until, or to 1
-        self.assertEqual(self.pc_at("finishing.resc", "--at", "0.0001"), ("at 0.000100", "0x80000010"))
-        self.assertEqual(self.pc_at("finishing.resc", "--at", "0.0003"), ("at 0.000300", "0x80000010"))
-        self.assertEqual(self.pc_at("finishing.resc", "--at", "0.0015"), ("at 0.001500", "0x80000010"))
-        self.assertEqual(self.pc_at("finishing.resc", "--until", "0.002"), ("at 0.002000", "0x80000010"))
+        for words in "--at 0.000100", "--at 0.000300", "--at 0.001500", "--until 0.002000":
+            option, time = words.split()
+            self.assertEqual(self.pc_at("finishing.resc", option, time), (f"at {time}", "0x80000010"))
         self.assertFalse((self.room / "own").exists(), "the script's own snapshot is not written")
         told = self.refused("finishing.resc", "--until", "0.002", "--at", "0.003")
         self.assertEqual(told, "tools/where: finishing.resc: the script ends at 0.002000\n")
@@ -373,11 +344,9 @@ class Times(InRoom):
 class Faults(InRoom):
     def test_a_refused_line_is_told_by_its_own_place(self) -> None:
         self.write("bad.resc", 'mach create m0\nmacro two\n"""\nusing sysbus\ncpu Wrong\n"""\nrunMacro $two\n')
-        self.assertEqual(
-            self.refused("bad.resc"), "tools/where: bad.resc: lab refused bad.resc:5: S1 unknown command\n"
-        )
-        self.write("outer.resc", "using sysbus\ninclude @inner.resc\n")
-        self.write("inner.resc", "\n\nmach set $unset\n")
+        line = "tools/where: bad.resc: lab refused bad.resc:5: S1 unknown command\n"
+        self.assertEqual(self.refused("bad.resc"), line)
+        self.put({"outer.resc": "using sysbus\ninclude @inner.resc\n", "inner.resc": "\n\nmach set $unset\n"})
         self.assertEqual(self.refused("outer.resc"), "tools/where: outer.resc: lab refused inner.resc:3: S3 variable\n")
 
     def test_what_cannot_be_read_is_told(self) -> None:
@@ -424,13 +393,10 @@ class Faults(InRoom):
     def test_without_LAB_it_runs_the_program_that_lab_names(self) -> None:
         for folder in "tools", "python":
             shutil.copytree(TOP / folder, self.room / folder, symlinks=True, ignore=shutil.ignore_patterns("tests"))
-        lab = self.room / "lab"
-        lab.write_text(f'#!/bin/sh\n[ "$*" = --program ] && echo "{os.path.abspath(LAB)}"\n')
-        lab.chmod(0o755)
+        self.write("lab", f'#!/bin/sh\n[ "$*" = --program ] && echo "{os.path.abspath(LAB)}"\n', 0o755)
         self.write("none.resc", "")
-        command = [sys.executable, "tools/where", "none.resc"]
-        env = {name: value for name, value in os.environ.items() if name != "LAB"}
-        ran = subprocess.run(command, cwd=self.room, env=env, capture_output=True, text=True)
+        self.environment.pop("LAB", None)
+        ran = self.ran(sys.executable, "tools/where", "none.resc")
         self.assertEqual((ran.stdout, ran.stderr), ("at 0.000000\n", ""))
 
 
@@ -501,8 +467,7 @@ class Snapshots(InRoom):
 
     def test_a_reader_that_ends_is_no_fault(self) -> None:
         self.keep("ask.resc")
-        command = f'"{sys.executable}" "{TOP}/tools/snapshot" kept | head -n 1'
-        ran = subprocess.run(command, cwd=self.room, shell=True, capture_output=True, text=True)
+        ran = self.ran("sh", "-c", f'"{sys.executable}" "{TOP}/tools/snapshot" kept | head -n 1')
         self.assertEqual((ran.stdout, ran.stderr), ("       8 time 1000\n", ""))
 
 
@@ -531,11 +496,9 @@ class Guesses(unittest.TestCase):
         self.assertEqual(unwind.prologue(short, 0x1000, 0x100C), (80, {1: -4, 8: -80}))
 
     def test_jumps_of_a_table_are_followed(self) -> None:
-        self.assertEqual(unwind.jump_target(0x1000, 0x0080006F), 0x1008)
-        self.assertEqual(unwind.jump_target(0x1000, 0xFF1FF06F), 0x0FF0)
-        self.assertEqual(unwind.jump_target(0x1000, 0x0010006F), 0x1800)
-        self.assertEqual(unwind.jump_target(0x1000, 0x0000106F), 0x2000)
-        self.assertEqual(unwind.jump_target(0x1000, 0x008000EF), 0x1000)
+        targets = {0x0080006F: 0x1008, 0xFF1FF06F: 0x0FF0, 0x0010006F: 0x1800, 0x0000106F: 0x2000, 0x008000EF: 0x1000}
+        for word, target in targets.items():
+            self.assertEqual(unwind.jump_target(0x1000, word), target)
         self.assertEqual(unwind.jump_target(0x1000, None), 0x1000)
 
     def test_memory_is_read_over_the_border_of_pages(self) -> None:
@@ -628,22 +591,19 @@ exec sleep 600
 """
 
 
-class Ended(unittest.TestCase):
+class Ended(Room):
     """What is left of tools that run lab, which is nothing."""
 
     def setUp(self) -> None:
-        folder = tempfile.TemporaryDirectory(prefix="lab-tests-where-")
-        self.addCleanup(folder.cleanup)
-        self.folder = pathlib.Path(folder.name)
-        self.room = self.folder / "room"
-        self.room.mkdir()
-        for name, text in {"s.resc": "", "process": "", "lab": WAITING}.items():
-            (self.folder / name).write_text(text, encoding="utf-8")
-        (self.folder / "lab").chmod(0o755)
+        super().setUp()
+        self.temporary = self.room / "room"
+        self.temporary.mkdir()
+        self.put({"s.resc": "", "process": ""})
+        self.write("lab", WAITING, 0o755)
 
     def process(self) -> int:
         """The process of the program that is in place of lab, or 0 where none has begun."""
-        return int((self.folder / "process").read_text(encoding="utf-8") or 0)
+        return int(self.read("process") or 0)
 
     def test_its_folder_and_its_run_go_with_it_however_it_ends(self) -> None:
         for number in signal.SIGTERM, signal.SIGHUP, signal.SIGINT, signal.SIGKILL:
@@ -652,21 +612,21 @@ class Ended(unittest.TestCase):
                     status, told = self.end_by(number, tool, words.split())
                     wanted = (130, f"tools/{tool}: it was interrupted\n") if number == signal.SIGINT else (-number, "")
                     self.assertEqual((status, told), wanted)
-        self.assertFalse((self.folder / "s.log").exists())
+        self.assertFalse((self.room / "s.log").exists())
 
     def end_by(self, number: int, tool: str, given: List[str]) -> Tuple[int, str]:
         """Ends a tool by a signal while lab runs. Returns its status, and what it says on the standard error."""
-        named = {"LAB": str(self.folder / "lab"), "TMPDIR": str(self.room), "PROCESS": str(self.folder / "process")}
+        named = {"LAB": f"{self.room}/lab", "TMPDIR": str(self.temporary), "PROCESS": f"{self.room}/process"}
         words = [sys.executable, "-c", HEED, sys.executable, str(TOP / "tools" / tool), *given]
-        (self.folder / "process").write_text("", encoding="utf-8")
+        self.write("process", "")
         env = {**os.environ, **named}
-        with subprocess.Popen(words, cwd=self.folder, env=env, stderr=subprocess.PIPE, text=True) as process:
+        with subprocess.Popen(words, cwd=self.room, env=env, stderr=subprocess.PIPE, text=True) as process:
             try:
                 wait_for(lambda: self.process() > 0)
-                self.assertEqual([it.name.rpartition("-")[0] for it in self.room.iterdir()], [f"lab-{tool}"])
+                self.assertEqual([it.name.rpartition("-")[0] for it in self.temporary.iterdir()], [f"lab-{tool}"])
                 process.send_signal(number)
                 told = process.communicate(timeout=240)[1]
-                wait_for(lambda: is_ended(self.process()) and not list(self.room.iterdir()))
+                wait_for(lambda: is_ended(self.process()) and not list(self.temporary.iterdir()))
                 return process.returncode, told
             finally:
                 process.kill()

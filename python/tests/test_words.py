@@ -11,7 +11,6 @@ from labtools.common.program import TOP
 from tests import tools
 from tests.commands import Commands
 
-
 # The words of a command, its status and its line, where no program is there. COUNT, FIRST and LANES are numbers from 1.
 WORDS = (
     ("mangle abc", 2, "abc is not a number from 1 to 999999999: tools/mangle [COUNT [SEED]]"),

@@ -30,27 +30,27 @@ def settings_of_python(environment: Mapping[str, str]) -> Dict[str, str]:
 
 def call(
     path: object,
-    *words: str,
+    *words: object,
     cwd: object = TOP,
     env: Optional[Mapping[str, str]] = None,
     given: str = "",
     stdout: int = subprocess.PIPE,
     stderr: int = subprocess.PIPE,
     is_buffered: bool = True,
-    before: Callable[[], None] = lambda: None,
+    before: Optional[Callable[[], None]] = None,
     python: str = sys.executable,
 ) -> "subprocess.CompletedProcess[str]":
-    """Calls a tool with these words in a folder, and returns how it has ended and what it has printed. `before` is
-    called in its process first. A Python is started where it is another one, or has other settings of its own."""
-    command, env = [str(path), *words], dict(os.environ if env is None else env)
-    if python != sys.executable or settings_of_python(env) != settings_of_python(os.environ):
+    """Calls a tool or another program with these words in a folder, and returns how it has ended and what it has
+    printed. `before` is called in its process first. A Python is started where it is another one, or has other settings
+    of its own."""
+    command, env = [str(path), *map(str, words)], dict(os.environ if env is None else env)
+    module = module_of(path)
+    if module is None or python != sys.executable or settings_of_python(env) != settings_of_python(os.environ):
         how: Dict[str, Any] = {"cwd": str(cwd), "env": env, "stdout": stdout, "stderr": stderr, "preexec_fn": before}
-        ran: "subprocess.CompletedProcess[str]" = subprocess.run(
-            [python, *command], input=given, text=True, errors="replace", **how
-        )
-        return ran
+        command = [*[python] * (module is not None), *command]
+        return subprocess.run(command, input=given, text=True, errors="replace", timeout=600, **how)
     # It is read here once, and not in each process.
-    importlib.import_module(module_of(path) or "")
+    importlib.import_module(module)
     with in_memory(given) as read, in_memory() as printed, in_memory() as told:
         output = printed.fileno() if stdout == subprocess.PIPE else stdout
         numbers = [read.fileno(), output, told.fileno() if stderr == subprocess.PIPE else printed.fileno()]
@@ -78,14 +78,15 @@ def end_as_tool(
     cwd: str,
     env: Mapping[str, str],
     is_buffered: bool,
-    before: Callable[[], None],
+    before: Optional[Callable[[], None]],
 ) -> NoReturn:
     """Ends this process as a tool does, whose standard files are those of these numbers."""
     status = 1
     try:
         for standard, number in enumerate(numbers):
             os.close(standard) if number == CLOSED else os.dup2(number, standard)
-        before()
+        if before:
+            before()
         os.chdir(cwd)
         os.environ.clear()
         os.environ.update(env)

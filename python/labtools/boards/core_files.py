@@ -12,9 +12,7 @@ from typing import Dict, Iterable, List, Optional
 
 from labtools.boards.machine import ABI_NAMES, Hart, Machine, Region, there
 from labtools.boards.snapshot import PAGE, NoSnapshot
-from labtools.common import plain_files
-from labtools.common import rooms
-
+from labtools.common import plain_files, rooms
 
 HEADER, SEGMENT = struct.Struct("<16sHHIIIIIHHHHHH"), struct.Struct("<8I")
 IDENT = b"\x7fELF\x01\x01\x01".ljust(16, b"\0")

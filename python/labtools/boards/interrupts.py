@@ -5,7 +5,6 @@ from typing import Any, Dict, List, Optional, Tuple
 
 from labtools.boards.machine import PINS, Device, Hart, Machine, there
 
-
 PRIORITIES, ENABLES, CONTEXTS, CLAIM = 0, 0x2000, 0x200000, 4
 SOURCES = 128
 CONTROLLER: Tuple[str, Dict[str, Any]] = ("controller", {})

@@ -9,7 +9,6 @@ from typing import Any, Dict, Iterator, Tuple
 from labtools.boards import snapshot
 from labtools.common.program import standing_program
 
-
 LIMIT = 64 * 2**20
 REFUSED = re.compile(rb"error: [^:]*:1: S20 snapshot\n")
 

@@ -3,11 +3,8 @@ import argparse
 import contextlib
 from typing import Dict, Iterator, List, Optional, Tuple
 
-from labtools.boards import kept_labs
-from labtools.boards import run_until
-from labtools.boards import snapshot
-from labtools.common import program
-from labtools.common import rooms
+from labtools.boards import kept_labs, run_until, snapshot
+from labtools.common import program, rooms
 from labtools.common.escapes import shown
 from labtools.scripts import resc
 

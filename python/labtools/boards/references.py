@@ -3,7 +3,6 @@ from typing import Any, Dict, Iterator, List, Tuple
 
 from labtools.boards.snapshot import NoSnapshot
 
-
 SOURCES, CONTEXTS = 128, 15
 
 # A case of a variant, and its fields.

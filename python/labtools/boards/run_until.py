@@ -6,14 +6,12 @@ import re
 import subprocess
 from typing import Any, Dict, List, Optional, Tuple
 
-from labtools.boards import kept_labs
-from labtools.boards import snapshot
+from labtools.boards import kept_labs, snapshot
 from labtools.common import rooms
-from labtools.common.program import path_of_program
-from labtools.scripts import reads
-from labtools.scripts import resc
+from labtools.common.program import program_or
+from labtools.logs.log_lines import time_text
+from labtools.scripts import reads, resc
 from labtools.scripts.reads import Command
-
 
 PAUSE = re.compile(rb"\[(\d+)\.(\d{6})\] pause [\w-]+/\w+: (?:pass|fail \d+)\n")
 REFUSED = re.compile(rb"error: (.*):(\d+): (.*)\n")
@@ -42,10 +40,6 @@ def steps_of(script: str, until: int = reads.DEFAULT_UNTIL) -> List[Command]:
         # A copy has fewer commands, and would not be refused.
         raise NoRun(f"lab refused {reading.refusal.place}: {reads.COMMANDS}")
     return [step for step in reading.commands if step.name != "Save"]
-
-
-def time_text(micros: int) -> str:
-    return f"{micros // 1_000_000}.{micros % 1_000_000:06}"
 
 
 def loaded(step: Command) -> Held:
@@ -83,15 +77,6 @@ def cut(steps: List[Command], at: int, until: int, pauses: List[int]) -> List[Co
     return taken
 
 
-def program() -> str:
-    """Returns the path of the program. ./lab itself would explain the copy."""
-    try:
-        return path_of_program()
-    except SystemExit as ended:
-        cause = "LAB names none" if os.environ.get("LAB") else f"./lab ended with {ended.code}"
-        raise NoRun(f"there is no program to run: {cause}") from ended
-
-
 def missing(script: str) -> str:
     """Returns which file that a script reads is not there, and the place that asks for it."""
     lost = [file for file in reads.files_read(script, pathlib.Path(".")) if not file.is_there]
@@ -102,7 +87,8 @@ def run(file: str, steps: List[Command], until: int, room: rooms.Room) -> Tuple[
     """Runs these commands of a script. Returns what the laboratory is then, and when finishers have ended runs."""
     script, kept, log = room.path / "copy.resc", room.path / "kept", room.path / "log"
     script.write_text("".join(f"{step.text}\n" for step in steps) + f"Save @{kept}\n", encoding="utf-8")
-    words = [program(), "run", str(script), "--until", time_text(until)]
+    # (./lab itself would explain the copy)
+    words = [program_or(NoRun), "run", str(script), "--until", time_text(until)]
     with log.open("wb") as printed:
         status = room.start(words, stdout=printed, stdin=subprocess.DEVNULL).wait()
     with log.open("rb") as printed:

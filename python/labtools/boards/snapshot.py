@@ -41,25 +41,19 @@ class Reader:
     def tell(self, path: str, at: int, shown: object) -> None:
         self.seen.append((at, path, str(shown)))
 
-    def number(self, width: int) -> Read:
-        """A number of so many bytes, which is shown as a decimal one."""
+    def number(self, width: int, form: str = "d") -> Read:
+        """A number of so many bytes, which is shown in this form."""
 
         def read(path: str) -> int:
             at, value = self.at, int.from_bytes(self.take(width), "little")
-            self.tell(path, at, value)
+            self.tell(path, at, format(value, form))
             return value
 
         return read
 
     def bits(self, width: int) -> Read:
         """An address or a register of so many bytes, which is shown as a hexadecimal number."""
-
-        def read(path: str) -> int:
-            at, value = self.at, int.from_bytes(self.take(width), "little")
-            self.tell(path, at, f"0x{value:0{2 * width}x}")
-            return value
-
-        return read
+        return self.number(width, f"#0{2 * width + 2}x")
 
     def flag(self, path: str) -> bool:
         at, value = self.at, self.take(1)[0]

@@ -5,7 +5,6 @@ from typing import Dict, List, Optional
 from labtools.boards.machine import Hart
 from labtools.elf.unwind import Frame, Stack
 
-
 INTERRUPT = 1 << 31
 # So many entries without an instruction of their own make a trap within a handler a loop.
 FEWEST = 3

@@ -2,14 +2,11 @@
 from dataclasses import dataclass, field
 from typing import Any, Dict, List, Optional, Tuple
 
-from labtools.boards import interrupts
-from labtools.boards import stacks
-from labtools.boards import traps
+from labtools.boards import interrupts, stacks, traps
 from labtools.boards.machine import ABI_NAMES, PINS, Device, Hart, Machine, machine_of
 from labtools.boards.traps import INTERRUPT
 from labtools.elf.elf import NO_READER, Elf, Line, NoElf, Section, is_readable
 from labtools.elf.unwind import SP, Code, Stack
-
 
 # How the plan of a board names the interrupt controller.
 CONTROLLER: Tuple[str, Dict[str, Any]] = ("part", {"": ("controller", {})})

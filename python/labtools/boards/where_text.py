@@ -3,7 +3,7 @@ from typing import Iterator, List
 
 from labtools.boards.interrupts import Source
 from labtools.boards.where import BoardReport, HartReport, Interrupts, Place, Report, StackFrame, Waiting
-
+from labtools.logs.log_lines import time_text
 
 REGISTERS_IN_A_LINE = 4
 MARKS = {"now": "", "calls": "", "trapped": ", where the trap came"}
@@ -106,7 +106,7 @@ def board_lines(board: BoardReport) -> Iterator[str]:
 
 
 def lines_of(report: Report) -> Iterator[str]:
-    yield f"at {report.time // 1_000_000}.{report.time % 1_000_000:06}"
+    yield f"at {time_text(report.time)}"
     for board in report.boards:
         yield from board_lines(board)
     if report.warnings:

@@ -5,7 +5,6 @@ from typing import List, Sequence, Tuple
 
 from labtools.common import heads
 
-
 HEAD = """.TH LAB 1 "" "lab VERSION" "User commands"
 .SH NAME
 lab \\- run the firmware of several RISC-V boards together

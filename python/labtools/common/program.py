@@ -13,7 +13,7 @@ import signal
 import subprocess
 import sys
 from types import ModuleType
-from typing import Callable, Collection, Dict, List, NoReturn, Optional
+from typing import Any, Callable, Collection, Dict, List, NoReturn, Optional, Type
 
 # The package `labtools` itself, whose modules are the tools.
 TOOLS = pathlib.Path(__file__).resolve().parents[1]
@@ -70,11 +70,12 @@ def forms_of(head: Optional[str]) -> str:
     return as_called(head).split("\n\n")[1]
 
 
-def parser_of(head: Optional[str]) -> argparse.ArgumentParser:
-    """Returns a parser for the words of the script that runs, which shows its forms where they are wrong."""
+def parser_of(head: Optional[str], is_strict: bool = False) -> argparse.ArgumentParser:
+    """Returns a parser for the words of the script that runs, which shows its forms where they are wrong. A strict one
+    takes no shorter options."""
     said, forms = as_called(head), forms_of(head).strip().replace("%", "%%")
-    form = argparse.RawDescriptionHelpFormatter
-    return argparse.ArgumentParser(prog=name_of_script(), usage=forms, description=said, formatter_class=form)
+    how: Dict[str, Any] = {"formatter_class": argparse.RawDescriptionHelpFormatter, "allow_abbrev": not is_strict}
+    return argparse.ArgumentParser(name_of_script(), forms, said, add_help=not is_strict, **how)
 
 
 def tell(text: str) -> None:
@@ -121,6 +122,15 @@ def path_of_program() -> str:
     if said.returncode != 0:
         raise SystemExit(said.returncode)
     return said.stdout.rstrip("\n")
+
+
+def program_or(fault: Type[Exception]) -> str:
+    """Returns what path_of_program does, but raises this where there is none."""
+    try:
+        return path_of_program()
+    except SystemExit as ended:
+        cause = "LAB names none" if os.environ.get("LAB") else f"./lab ended with {ended.code}"
+        raise fault(f"there is no program to run: {cause}") from ended
 
 
 def standing_program() -> Optional[str]:

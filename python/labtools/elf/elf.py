@@ -10,7 +10,6 @@ import struct
 from dataclasses import dataclass
 from typing import Any, Dict, Iterable, Iterator, List, Optional, Tuple
 
-
 NO_READER = (
     "no functions and lines without pyelftools: `apt-get install python3-pyelftools` or"
     " `pip install pyelftools` for this Python"

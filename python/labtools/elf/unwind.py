@@ -6,7 +6,6 @@ from typing import Dict, List, Optional, Set, Tuple
 from labtools.boards.machine import ABI_NAMES, PINS, Hart, Memory
 from labtools.elf.elf import Elf, Symbol
 
-
 MOST_FRAMES = 64
 RA, SP = ABI_NAMES.index("ra"), ABI_NAMES.index("sp")
 

@@ -6,7 +6,6 @@ import sys
 from collections import deque
 from typing import Callable, Deque, Dict, Generic, Iterable, Iterator, Optional, Tuple, TypeVar
 
-
 Item = TypeVar("Item")
 # Who makes an access, and which one it is.
 Access = Tuple[str, str]

@@ -10,7 +10,6 @@ from typing import Dict, Iterable, Iterator, List, Optional, Tuple
 
 from labtools.logs import folded
 
-
 LINE = re.compile(r"\[(\d{1,5})\.(\d{6})\] (pause )?([A-Za-z0-9_-]+)/([A-Za-z][A-Za-z0-9_]*): (.*)")
 FRAME = re.compile(r"(tx|rx|lost) ([0-7][0-9a-f]{2}) (?:data ([0-8])(?: ((?:[0-9a-f]{2}){1,8}))?|remote ([0-8]))")
 

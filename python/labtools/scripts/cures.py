@@ -13,7 +13,6 @@ from typing import Iterator, List, Sequence
 from labtools.common.manual import rows_after
 from labtools.common.program import TOP
 
-
 BACKQUOTED = re.compile(r"`([^`]+)`")
 # Words in capital letters stand for any word, but for the one that is a part of a command.
 ANY = re.compile("(?!PC$)[A-Z]+")

@@ -7,16 +7,11 @@ from dataclasses import dataclass
 from typing import Callable, Dict, Iterator, List, Optional, Sequence, Tuple
 
 from labtools.boards import snapshot
-from labtools.scripts import cures
-from labtools.scripts import mistakes_of_words
-from labtools.scripts import reads
-from labtools.scripts import repl
-from labtools.scripts import resc
+from labtools.scripts import cures, mistakes_of_words, reads, repl, resc
 from labtools.scripts.mistakes_of_words import listed, near
 from labtools.scripts.parts import KINDS, Part, Parts
 from labtools.scripts.reads import Board, Scene
 from labtools.scripts.refusals import Refused
-
 
 PLATFORMS = cures.Table("docs/PLATFORMS.md", "| Type | Attributes | Bytes without a range; the least |", 0, 1, 1)
 LINKED = ("uart", "can")

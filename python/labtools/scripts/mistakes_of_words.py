@@ -8,11 +8,10 @@ from typing import Callable, Dict, Iterable, List, Optional, Sequence, Tuple
 
 from labtools.common.manual import rows_after
 from labtools.common.program import TOP
-from labtools.scripts import reads
-from labtools.scripts import resc
+from labtools.logs.log_lines import time_text
+from labtools.scripts import reads, resc
 from labtools.scripts.cures import fits
 from labtools.scripts.reads import Scene
-
 
 SCRIPTS = TOP / "docs/SCRIPTS.md"
 COMMANDS = "| Command | Does | Example |"
@@ -254,8 +253,7 @@ LIMITS: Dict[resc.Sort, str] = {
 
 def written(seconds: Fraction) -> str:
     """A time as a script has it, to the microsecond, at least one where it is any."""
-    micros = max(round(seconds / MICROSECOND), 1 if seconds else 0)
-    return f'"{micros // 10**6}.{micros % 10**6:06}"'
+    return f'"{time_text(max(round(seconds / MICROSECOND), 1 if seconds else 0))}"'
 
 
 def in_other_form(text: str) -> str:

@@ -9,7 +9,6 @@ from typing import Any, Dict, List, Optional
 from labtools.boards import snapshot
 from labtools.scripts.reads import Board
 
-
 KINDS = {
     "processor": "a processor",
     "memory": "a memory",

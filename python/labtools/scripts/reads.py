@@ -21,10 +21,8 @@ from dataclasses import dataclass, field, replace
 from typing import Any, Callable, Dict, List, Optional, Sequence, Tuple, Union
 
 from labtools.boards import snapshot
-from labtools.scripts import repl
-from labtools.scripts import resc
+from labtools.scripts import repl, resc
 from labtools.scripts.resc import Line, Refused
-
 
 FILE_LIMIT = 16 * 2**20
 SNAPSHOT_LIMIT = 64 * 2**20
@@ -361,7 +359,7 @@ class Walk:
             row, arguments = resc.command_of(words)
         except Refused as fault:
             raise self.refuse(str(fault)) from fault
-        command = replace(self.pending, text=" ".join(words), row=row, arguments=arguments)
+        command = Command(" ".join(words), self.pending.file, self.pending.number, row, arguments)
         if row.name not in ("include", "runMacro", "quit"):
             self.reading.commands.append(command)
             self.is_told = True
@@ -622,6 +620,11 @@ def follow(
         walk.reading.refusal = refused.refusal
     walk.end()
     return walk.reading
+
+
+def has_finisher(script: Union[str, pathlib.Path], folder: pathlib.Path) -> bool:
+    """Whether a board of a script has a finisher, where lab is started in this folder."""
+    return any(board.has_finisher for board in follow(script, folder).boards)
 
 
 def files_read(script: Union[str, pathlib.Path], folder: pathlib.Path) -> List[FileRead]:

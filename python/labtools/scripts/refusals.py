@@ -7,9 +7,7 @@ import subprocess
 from dataclasses import dataclass
 from typing import List, NamedTuple, Optional
 
-from labtools.scripts import reads
-from labtools.scripts import resc
-
+from labtools.scripts import reads, resc
 
 HERE = pathlib.Path(".")
 REFUSED = re.compile(r"error: (.*:\d+): (\S+ .*)")

@@ -248,13 +248,6 @@ def a_truth(word: str) -> bool:
     return word.lower() == "true"
 
 
-def a_speed(word: str) -> int:
-    speed = a_number(word)
-    if not 1 <= speed <= 1000:
-        raise Refused(ARGUMENTS)
-    return speed
-
-
 def a_time(word: str) -> int:
     """Microseconds, at most 10,000 seconds."""
     match = CLOCK.fullmatch(an_entry(word))
@@ -264,24 +257,25 @@ def a_time(word: str) -> int:
     if int(minutes) > 59 or (match.group(1) and int(seconds) > 59):
         raise Refused(TIME)
     whole = int(alone) + int(hours) * 3600 + int(minutes) * 60 + int(seconds)
-    micros = whole * 10**6 + int(fraction.ljust(6, "0"))
-    if micros > 10**10:
-        raise Refused(TIME)
-    return micros
+    return within(0, whole * 10**6 + int(fraction.ljust(6, "0")), 10**10, TIME)
+
+
+def within(least: int, value: int, most: int, cause: str) -> int:
+    if not least <= value <= most:
+        raise Refused(cause)
+    return value
+
+
+def a_speed(word: str) -> int:
+    return within(1, a_number(word), 1000, ARGUMENTS)
 
 
 def a_quantum(word: str) -> int:
-    micros = a_time(word)
-    if not 1 <= micros <= 10**6:
-        raise Refused(TIME)
-    return micros
+    return within(1, a_time(word), 10**6, TIME)
 
 
 def a_delay(word: str) -> int:
-    micros = a_time(word)
-    if micros > 10**6:
-        raise Refused(TIME)
-    return micros
+    return within(0, a_time(word), 10**6, TIME)
 
 
 Sort = Callable[[str], object]
@@ -328,7 +322,6 @@ ROWS = (
     Row(("connector", "Connect"), 2, (an_entry, a_name)),
     Row(("using", "sysbus")),
 )
-
 
 BY_OPENING = {row.opening: row for row in ROWS}
 

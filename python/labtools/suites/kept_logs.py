@@ -9,9 +9,7 @@ import tempfile
 from collections import Counter, deque
 from typing import BinaryIO, Deque, Iterator, List, Optional, Tuple, cast
 
-from labtools.logs import folded
-from labtools.logs import log_lines
-
+from labtools.logs import folded, log_lines
 
 LINE = re.compile(rb"\[\d+\.\d{6}\] ((?:pause )?([\w-]+/\w+): .*)", re.DOTALL)
 VERDICT = re.compile(r"\[\d+\.\d{6}\] pause [\w-]+/\w+: (pass|fail \d+)")

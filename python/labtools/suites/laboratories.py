@@ -11,9 +11,7 @@ from typing import List, Mapping, Optional, Sequence, Union
 from labtools.logs import log_lines
 from labtools.logs.log_lines import Frame
 from labtools.scripts import resc
-from labtools.suites import kept_logs
-from labtools.suites import lab_runs
-from labtools.suites import suite_tests
+from labtools.suites import kept_logs, lab_runs, suite_tests
 
 ACCESS = re.compile(r"(read|write) ([124]) at 0x([0-9a-f]{8})(?: value 0x([0-9a-f]{8}))?")
 VERDICT = re.compile(r"pass|fail \d+")

@@ -15,11 +15,8 @@ from typing import BinaryIO, Callable, Dict, Iterator, List, Optional
 
 from labtools.common import plain_files
 from labtools.scripts import reads
-from labtools.suites import kept_logs
-from labtools.suites import lab_runs
-from labtools.suites import suite_tests
+from labtools.suites import kept_logs, lab_runs, suite_tests
 from labtools.suites.suite_tests import Undone, Wishes, unread
-
 
 # How many scripts may come one after another before a test.
 DEPTH = 100

@@ -1,25 +1,15 @@
 """What tools/suite and tools/sweep share: their options, the lines that they print, and how they end."""
 import argparse
-import contextlib
 import dataclasses
-import io
 import os
 import pathlib
 import resource
 import signal
-import sys
 import tempfile
 from typing import Callable, List, NoReturn, Optional, Sequence, Union
 
-from labtools.common import escapes
-from labtools.common import plain_files
-from labtools.common import rooms
-from labtools.common.program import as_called, drop_output, name_of_script
-from labtools.suites import kept_logs
-from labtools.suites import lab_runs
-from labtools.suites import shards
-from labtools.suites import suite_reports
-from labtools.suites import trials
+from labtools.common import escapes, plain_files, program, rooms
+from labtools.suites import kept_logs, lab_runs, shards, suite_reports
 from labtools.suites.suite_reports import Outcome
 from labtools.suites.suite_tests import Undone
 
@@ -37,14 +27,7 @@ SIGNALS = (signal.SIGINT, signal.SIGTERM, signal.SIGHUP)
 
 def tell(text: str) -> None:
     """Says something beside the results."""
-    print_beside(f"{pathlib.PurePath(name_of_script()).name.replace('lab-', '')}: {escapes.shown(text)}")
-
-
-def print_beside(text: str) -> None:
-    """Prints a line on the standard error, which may be full, or closed: it is none then."""
-    with contextlib.suppress(OSError, AttributeError):
-        sys.stderr.write(f"{text}\n")
-        sys.stderr.flush()
+    program.tell(f"{pathlib.PurePath(program.name_of_script()).name.replace('lab-', '')}: {escapes.shown(text)}")
 
 
 def whole(text: str) -> int:
@@ -64,9 +47,8 @@ def seconds(text: str) -> float:
 
 
 def parser(head: str) -> argparse.ArgumentParser:
-    """The options of both. The forms of the tool's head are its usage."""
-    usage = "\n       ".join(line.strip() for line in as_called(head).split("\n\n")[1].split("\n"))
-    made = argparse.ArgumentParser(prog=name_of_script(), add_help=False, usage=usage, allow_abbrev=False)
+    """The options of both."""
+    made = program.parser_of(head, is_strict=True)
     made.add_argument("-j", type=whole, default=len(os.sched_getaffinity(0)))
     made.add_argument("--junit", type=pathlib.Path)
     made.add_argument("--timeout", type=seconds, default=300.0)
@@ -101,9 +83,9 @@ def show(text: str) -> None:
     """Shows the first lines of a text beside the results."""
     lines = kept_logs.lines_of(text)
     for line in lines[:SHOWN]:
-        print_beside(f"  {line}".rstrip())
+        program.tell(f"  {line}".rstrip())
     if len(lines) > SHOWN:
-        print_beside(f"  .. and {len(lines) - SHOWN} lines more")
+        program.tell(f"  .. and {len(lines) - SHOWN} lines more")
 
 
 def summary_of(outcomes: Sequence[Outcome]) -> str:
@@ -133,7 +115,7 @@ class Session:
     def runs(self) -> lab_runs.Runs:
         """Runs in this folder, which a signal ends from now on."""
         given = self.given
-        runs = lab_runs.Runs(trials.program(), pathlib.Path.cwd(), given.timeout, given.most)
+        runs = lab_runs.Runs(program.program_or(Undone), pathlib.Path.cwd(), given.timeout, given.most)
         end_by_signals(runs, self.room)
         return runs
 
@@ -168,9 +150,6 @@ def end_by_signals(runs: lab_runs.Runs, room: rooms.Room) -> None:
 
 def run(given: argparse.Namespace, work: Callable[[Session], int]) -> int:
     """Does the work of a tool, and returns its status; in words, where it cannot be done."""
-    # A name that this cannot encode is told by numbers.
-    if isinstance(sys.stdout, io.TextIOWrapper):
-        sys.stdout.reconfigure(errors="backslashreplace")
     for number in (signal.SIGTERM, signal.SIGHUP):
         if signal.getsignal(number) is not signal.SIG_IGN:
             signal.signal(number, signal.default_int_handler)
@@ -180,11 +159,11 @@ def run(given: argparse.Namespace, work: Callable[[Session], int]) -> int:
             return work(Session(given, room))
     except BrokenPipeError:
         # Nobody reads on what this prints.
-        drop_output()
+        program.drop_output()
         return 2
     except (Undone, OSError) as fault:
         # What was printed before is written already.
-        drop_output()
+        program.drop_output()
         tell(str(fault))
         return 2
     except KeyboardInterrupt:

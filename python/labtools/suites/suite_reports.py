@@ -1,4 +1,4 @@
-"""What a suite has found, as JUnit XML and as TAP 14."""
+"""Reports the results of a suite as JUnit XML and as TAP 14."""
 import dataclasses
 import json
 import pathlib
@@ -12,8 +12,8 @@ from labtools.suites import suite_tests
 
 @dataclasses.dataclass(frozen=True)
 class Outcome:
-    """A test, what was found of it, the last lines that it has printed, and how long it took. The label tells tests of
-    one script apart."""
+    """A test with its finding, the last lines that it printed, and how long it took. The label tells tests of one
+    script apart."""
 
     script: str
     finding: suite_tests.Finding
@@ -35,7 +35,7 @@ class Outcome:
 
 
 def in_words(outcome: Outcome) -> str:
-    """What a reader wants to see of a test that has not passed."""
+    """What to show of a test that has not passed."""
     parts = [outcome.finding.difference]
     if outcome.last_lines:
         parts.append(f"the last lines printed:\n{outcome.last_lines}")
@@ -43,7 +43,7 @@ def in_words(outcome: Outcome) -> str:
 
 
 def document_of(cases: Sequence[ElementTree.Element], said: Mapping[str, str]) -> ElementTree.Element:
-    """A document of JUnit: one suite with these cases, and with what else is said of it."""
+    """Makes a JUnit document: one suite of these cases, with these properties."""
     counts = {
         "tests": str(len(cases)),
         "failures": str(sum(it.find("failure") is not None for it in cases)),
@@ -62,7 +62,7 @@ def document_of(cases: Sequence[ElementTree.Element], said: Mapping[str, str]) -
 
 
 def seconds_of(case: ElementTree.Element) -> float:
-    """The time of a case, and 0 where it has none."""
+    """The time of a case, or 0 if it has none."""
     try:
         return float(case.get("time", "0"))
     except ValueError:
@@ -70,7 +70,8 @@ def seconds_of(case: ElementTree.Element) -> float:
 
 
 def outcome_of(case: ElementTree.Element) -> Outcome:
-    """What a case says, as far as a line tells it. Others than tools/suite may have written it, as pytest has."""
+    """Reads a case as an outcome, as far as a line of the report needs it. Another program, such as pytest, may have
+    written it."""
     name = f"{case.get('classname', '')}.{case.get('name', '')}"
     script = case.get("file", name)
     # The brackets at the end of a name are its label.
@@ -110,7 +111,7 @@ def write_document(path: pathlib.Path, document: ElementTree.Element) -> None:
 
 
 class Tap:
-    """Prints tests as TAP 14, each when it is known."""
+    """Prints tests as TAP 14, each as soon as it is known."""
 
     def __init__(self, output: TextIO, count: int) -> None:
         self.output = output

@@ -6,9 +6,7 @@ from typing import BinaryIO, List, Optional, Tuple
 from labtools.common import plain_files
 from labtools.common.escapes import shown
 from labtools.scripts import reads
-from labtools.suites import kept_logs
-from labtools.suites import lab_runs
-
+from labtools.suites import kept_logs, lab_runs
 
 EXACT, NOTIMES, VERDICT = MODES = ("exact", "notimes", "verdict")
 MARK = "suite:"

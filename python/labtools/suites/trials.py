@@ -1,4 +1,4 @@
-"""Tries the tests of a suite side by side, or keeps their logs."""
+"""Runs the tests of a suite side by side, or keeps their logs."""
 import concurrent.futures
 import contextlib
 import io
@@ -8,26 +8,13 @@ import pathlib
 from typing import BinaryIO, Callable, Dict, Iterator, List, Sequence
 
 from labtools.common import plain_files
-from labtools.common.program import path_of_program
-from labtools.scripts import finishers
-from labtools.suites import kept_logs
-from labtools.suites import lab_runs
-from labtools.suites import preparations
-from labtools.suites import suite_tests
+from labtools.scripts import reads
+from labtools.suites import kept_logs, lab_runs, preparations, suite_tests
 from labtools.suites.suite_reports import Outcome
 from labtools.suites.suite_tests import Finding, Undone
 
 # How many lines of a log are warned of at most.
 WARNED = 40
-
-
-def program() -> str:
-    """The program that is run. ./lab, which builds it where it has to, says why there is none."""
-    try:
-        return path_of_program()
-    except SystemExit as ended:
-        cause = "LAB names none" if os.environ.get("LAB") else f"./lab ended with {ended.code}"
-        raise Undone(f"there is no program to run: {cause}") from ended
 
 
 def log_of(script: str) -> pathlib.Path:
@@ -52,15 +39,15 @@ def tests_in(paths: Sequence[str]) -> List[str]:
 
 
 def warnings_of(test: str, folder: pathlib.Path, log: BinaryIO) -> Iterator[str]:
-    """What is to be said of the log that is kept of a test."""
+    """Warnings about the log that was kept of a test."""
     for line in itertools.islice(kept_logs.failures_in(log), WARNED):
         yield f"says that a test has failed, so later runs are expected to fail it too: {line}"
-    if not kept_logs.has_verdict(log) and finishers.has_finisher(test, folder):
+    if not kept_logs.has_verdict(log) and reads.has_finisher(test, folder):
         yield "has no verdict (`pause .. pass`), though a board has a finisher: did the test finish?"
 
 
 class Trials:
-    """Tries tests of a project, or keeps their logs. `tell` takes what is to be said beside the results."""
+    """Runs tests of a project, or keeps their logs. `tell` takes messages beside the results."""
 
     def __init__(self, runs: lab_runs.Runs, tell: Callable[[str], None], is_update: bool = False) -> None:
         self.runs = runs
@@ -69,8 +56,8 @@ class Trials:
         self.before = preparations.Preparations(runs, tell)
 
     def outcomes(self, tests: Sequence[str], jobs: int) -> Iterator[Outcome]:
-        """Tries so many tests at a time, and yields what was found in their order, each when it is known. What they
-        come after is done before the first of them, since a test may be such a script too."""
+        """Runs so many tests at a time, and yields their outcomes in order, each as soon as it is known. The scripts
+        that they come after run before the first test, since such a script may be a test itself."""
         with concurrent.futures.ThreadPoolExecutor(jobs) as pool:
             tried: List["concurrent.futures.Future[Outcome]"] = []
             try:
@@ -84,19 +71,19 @@ class Trials:
                 self.runs.end_all()
 
     def prepare(self, test: str) -> None:
-        """Runs what a test comes after. A fault is told of each test that meets it, later."""
+        """Runs what a test comes after. Each test that this concerns reports a fault later."""
         with contextlib.suppress(Exception):
             self.before.make_for(test)
 
     def scripts_before(self, test: str) -> List[str]:
-        """The scripts that come before a test, and none where that cannot be told, as trying it will show."""
+        """The scripts that come before a test; none if they cannot be told, which running the test will show."""
         with contextlib.suppress(Undone, OSError, ValueError):
             return self.before.order_for(test)
         return []
 
     def outcome_of(self, test: str) -> Outcome:
-        """Tries a test, or keeps its log. Whatever a test may have that nobody has thought of is told as an error of
-        that test, and the others are tried."""
+        """Runs a test, or keeps its log. An unexpected exception is an error of this test alone: the others still
+        run."""
         try:
             mode = self.before.wishes_of(test).mode
             with self.kept_log(test, mode) as kept:
@@ -111,7 +98,7 @@ class Trials:
         return Outcome(test, Finding(suite_tests.ERROR, "undone", cause), "", 0.0)
 
     def finding_of(self, test: str, mode: str, kept: BinaryIO, ran: lab_runs.Ran) -> Finding:
-        """What is to be said of a run of a test, whose log is kept where that is wanted."""
+        """Judges a run of a test, or keeps its log if that is asked for."""
         fault = suite_tests.fault_of(ran, test, self.runs)
         if fault is not None:
             return fault
@@ -121,14 +108,14 @@ class Trials:
 
     @contextlib.contextmanager
     def run(self, test: str) -> Iterator[lab_runs.Ran]:
-        """Runs a test. One that others come after is run by nobody else meanwhile, since it keeps a snapshot."""
+        """Runs a test. If others come after it, nobody else runs it meanwhile, since it keeps a snapshot."""
         with self.before.alone(test) if self.before.is_known(test) else contextlib.nullcontext():
             with self.runs.run(test) as ran:
                 yield ran
 
     @contextlib.contextmanager
     def kept_log(self, test: str, mode: str) -> Iterator[BinaryIO]:
-        """The log that was kept of a test; an empty one where there is none and one is to be kept."""
+        """The kept log of a test; an empty one if there is none yet and this run is to keep one."""
         path = log_of(test)
         with contextlib.ExitStack() as held:
             try:
@@ -144,7 +131,7 @@ class Trials:
             yield kept
 
     def check_size(self, path: pathlib.Path, kept: BinaryIO) -> None:
-        """Refuses a kept log that tests nothing, and one that no run comes to."""
+        """Refuses a kept log that tests nothing, or is longer than any run may print."""
         size = kept_logs.size_of(kept)
         if not size:
             raise Undone(f"{path} is empty, so it tests nothing: --update keeps another one")
@@ -152,7 +139,7 @@ class Trials:
             raise Undone(f"{path} has more than {self.runs.most} bytes, which --most allows a test to print")
 
     def keep(self, test: str, kept: BinaryIO, printed: BinaryIO) -> Finding:
-        """Keeps what a test has printed as its log, if it has printed anything."""
+        """Keeps what a test has printed as its log, unless it has printed nothing."""
         if not kept_logs.size_of(printed):
             return Finding(suite_tests.ERROR, "undone", "nothing was printed, so no log is kept")
         if kept_logs.are_equal(kept, printed):
