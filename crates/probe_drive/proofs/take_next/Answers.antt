@@ -29,14 +29,14 @@ before-requires-clause-rising g c =
 pub returns-clause-follow : goal.returns-clause-follow
 returns-clause-follow g c =
     let same = c.pass_idle-passed.ensures.none (omega (arith, c.if-passed-gt0.false)) in
-    shown_follow g.J.Job.meaning g.J.Job.sent g.J.Job.state_after g.J.Timed.time _ _ c.args.slot
+    shown_follow g.J.Job.meaning g.J.Job.sent g.J.Job.state_after g.J.Timed.time
+    (g.W.Watcher.told c.args.watcher.now) (g.W.Watcher.told c.before-2.new.self) c.args.slot
     c.args.jobs.now.items c.pass_idle-passed.new.jobs.items c.index_mut.result.now c.take_slot.new.job same
     c.requires.next c.index_mut.ensures.value c.in_ok-take_slot.ensures c.before-2.ensures
 
 pub returns-clause-taken : goal.returns-clause-taken
 returns-clause-taken g c =
-    let same = c.pass_idle-passed.ensures.none (omega (arith, c.if-passed-gt0.false)) in
-    (
+    let same = c.pass_idle-passed.ensures.none (omega (arith, c.if-passed-gt0.false)) in (
       1,
       omega arith,
       next_takes g.J.Job.meaning g.J.Job.sent g.J.Job.state_after g.J.Timed.time c.args.slot
