@@ -77,11 +77,11 @@ pub passed_over :
     IsPaid b.view.numbers g → rest ≡ left g → n ≡ min limit rest → from ≡ g.from → first ≡ g.used → m ≤ n →
     b' ≡ after b (stretch b.view from first m) → g' ≡ spent g m →
     (m ≤ min limit (job.left (job_of b g pass))) × (job_of b' g' pass ≡ job.after state_after (job_of b g pass) m)
-passed_over stretches b b' g g' pass limit n rest from first m paid rest_is n_is from_is first_is most board_is grant_is =
+passed_over stretches b b' g g' pass limit n rest from first m paid rest_is n_is from_is first_is most is grant_is =
     let all = asked b g pass limit n rest rest_is n_is in
     let few = enough limit n rest m n_is most in (
       omega (arith, most, all),
-      turned stretches b b' g g' pass from first m (omega (arith, few, rest_is)) paid from_is first_is board_is grant_is,
+      turned stretches b b' g g' pass from first m (omega (arith, few, rest_is)) paid from_is first_is is grant_is,
     )
 
 -- idle slots of a board are idle slots of its job
@@ -90,7 +90,8 @@ pub idle_slots :
     stretch b.view g.from g.used n ≡ quiet (passed b.view n) → AreIdle state_after idled (job_of b g pass) n
 idle_slots stretches b g pass n few paid idle =
     let moved = stretches b g pass n few (omega (arith, few, paid.posts)) (omega (arith, few, paid.entries)) in
-    let run : stepped b g n ≡ record b { view = passed b.view n } = ap (after b) idle ∙ sym (quiet_behind b (passed b.view n)) in
+    let run : stepped b g n ≡ record b { view = passed b.view n } =
+    ap (after b) idle ∙ sym (quiet_behind b (passed b.view n)) in
     let is : job.after state_after (job_of b g pass) n ≡ job_of (record b { view = passed b.view n }) (spent g n) pass =
     moved ∙ ap (λ (s : State). job_of s (spent g n) pass) run in record {
       state_is = ap (λ (j : job.Job ((State × Grant) × Pass)). j.state) is;

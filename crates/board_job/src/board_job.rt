@@ -166,12 +166,12 @@ impl<D: Device + Send> Timed for BoardJob<D> {
     fn pass(&mut self, limit: u64) -> u64 {
         laws::turns_are_stretches();
         board::laws::stretches_number();
-        let n = limit.min(self.handle.left());
+        let most = limit.min(self.handle.left());
         let at = SlotAt {
             from: self.handle.from(),
             first: self.handle.taken(),
         };
-        let passed = self.board.pass(at, n);
+        let passed = self.board.pass(at, most);
         self.handle.used(passed);
         passed
     }

@@ -9,6 +9,7 @@ use Rattle.dev_core.specs.declared.post.Post.{Post}
 use Rattle.floor_core.specs.Job.{Job, Rests, after}
 use Rattle.probe_jobs.specs.Course.{After, AreIdle, Partly, OneTakes, slots_left}
 use Rattle.probe_jobs.specs.Next.{due, NoneBefore, NoneLeft, IsNext}
+use Rattle.probe_jobs.specs.Told.{Told, Follow, shown}
 use Rattle.probe_jobs.specs.declared.slot.Slot.{Slot}
 use Rattle.probe_drive.proofs.CourseLemmas.{TurnsAdd, PostsAdd, idle_after, left_after, more_slots, whole}
 
@@ -103,6 +104,29 @@ module _ {J S : Type 0} (meaning : J → Job S) (sent : J → List Post)
             (subst (λ (j : J). After meaning sent state_after j (min 1 (slots_left meaning j)) next) same t),
         refl,
       )
+
+  -- so does the one that is next
+  pub next_takes :
+      (time : S → ℕ) (slot : Slot) (jobs same : List J) (old next : J) → same ≡ jobs →
+      IsNext meaning time slot jobs (length jobs) → old ≡ get_or same slot.place old →
+      After meaning sent state_after old (min 1 (slots_left meaning old)) next →
+      OneTakes meaning sent state_after slot.place 1 jobs (set same slot.place next)
+  next_takes time slot jobs same old next same_is is read t =
+      subst (λ (l : List J). OneTakes meaning sent state_after slot.place 1 jobs (set l slot.place next)) (sym same_is)
+      (one_takes jobs slot.place is.0 old next is.2 is.3
+      (read ∙ ap (λ (l : List J). get_or l slot.place old) same_is) t)
+
+  -- one that is shown and then takes its slot follows
+  pub shown_follow :
+      (time : S → ℕ) (told new : Told J) (slot : Slot) (jobs same : List J) (old next : J) → same ≡ jobs →
+      IsNext meaning time slot jobs (length jobs) → old ≡ get_or same slot.place old →
+      After meaning sent state_after old (min 1 (slots_left meaning old)) next → new ≡ shown told slot same →
+      Follow meaning sent state_after new (set same slot.place next)
+  shown_follow time told new slot jobs same old next same_is is read t new_is =
+      let next_is : IsNext meaning time slot same (length same) =
+      subst (λ (l : List J). IsNext meaning time slot l (length l)) (sym same_is) is in
+      subst (λ (all : Told J). Follow meaning sent state_after all (set same slot.place next)) (sym new_is)
+      (inr (omega arith, next_takes time slot same same old next refl next_is read t))
 
   -- one passes over idle slots
   pub one_passes :

@@ -1,7 +1,7 @@
 //! The next slot of one of several jobs.
 
 /// The next slot of one of several jobs.
-#[derive(Clone, Copy, PartialEq, Eq, Debug)]
+#[derive(Clone, Copy)]
 pub struct Slot {
     /// When it lies.
     pub at: u64,

@@ -34,7 +34,8 @@ pub trait Watcher<J: Timed> {
 
     /// Is told that the job in the place of `slot` has passed over so many idle slots, of which this one came next.
     fn passed(&mut self, slot: Slot, slots: u64, jobs: &Vec<J>)
-        requires passed { HavePassed J.meaning J.sent J.state_after J.time J.idled (told self.old) slot slots jobs.now.items }
+        requires passed { HavePassed J.meaning J.sent J.state_after J.time J.idled (told self.old) slot slots
+            jobs.now.items }
         requires stand { AllZip (Partly J.meaning J.sent J.state_after) (told self.old).began jobs.now.items }
         ensures { told self.new ≡ passed (told self.old) slot jobs.now.items };
 }

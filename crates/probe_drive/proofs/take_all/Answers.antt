@@ -15,13 +15,18 @@ slots-init g c =
     record {
       began = ap (λ (told : Told g.row.J.Denot). told.began) c.requires.told;
       before =
-          subst (λ (told : Told g.row.J.Denot). NoneBefore g.J.Job.meaning g.J.Timed.time told.last c.args.jobs.now.items (length c.args.jobs.now.items))
+          subst
+          (λ (told : Told g.row.J.Denot). NoneBefore g.J.Job.meaning g.J.Timed.time told.last c.args.jobs.now.items
+          (length c.args.jobs.now.items))
           (sym c.requires.told)
           (none_before_first g.J.Job.meaning g.J.Job.sent g.J.Job.state_after g.J.Timed.time c.args.jobs.now.items);
       follow =
-          subst (λ (told : Told g.row.J.Denot). Follow g.J.Job.meaning g.J.Job.sent g.J.Job.state_after told c.args.jobs.now.items)
+          subst
+          (λ (told : Told g.row.J.Denot). Follow g.J.Job.meaning g.J.Job.sent g.J.Job.state_after told
+          c.args.jobs.now.items)
           (sym c.requires.told) (inl (refl, refl));
-      stand = all_begin g.J.Job.meaning g.J.Job.sent g.J.Job.state_after laws.rests c.args.jobs.now.items c.requires.sent;
+      stand =
+          all_begin g.J.Job.meaning g.J.Job.sent g.J.Job.state_after laws.rests c.args.jobs.now.items c.requires.sent;
     }
 
 pub slots-smaller : goal.slots-smaller
@@ -38,11 +43,14 @@ slots-preserved g c =
     record {
       began = c.in_ok-take_next.ensures.began ∙ c.slots.invariant.began;
       before =
-          subst (λ (slot : Slot). NoneBefore g.J.Job.meaning g.J.Timed.time slot c.take_next.new.jobs.items (length c.take_next.new.jobs.items))
+          subst
+          (λ (slot : Slot). NoneBefore g.J.Job.meaning g.J.Timed.time slot c.take_next.new.jobs.items
+          (length c.take_next.new.jobs.items))
           (sym c.in_ok-take_next.ensures.last)
           (none_before g.J.Job.meaning g.J.Job.sent g.J.Job.state_after g.J.Timed.time timed.rises c.in-Some.slot
           c.slots.jobs.items c.take_next.new.jobs.items c.in-Some.slot.place n takes
-          (subst (λ (jobs : List g.row.J.Denot). NoneBefore g.J.Job.meaning g.J.Timed.time c.in-Some.slot jobs (length jobs))
+          (subst
+          (λ (jobs : List g.row.J.Denot). NoneBefore g.J.Job.meaning g.J.Timed.time c.in-Some.slot jobs (length jobs))
           c.deref.ensures.value c.in-Some.ensures.5));
       follow = c.in_ok-take_next.ensures.follow;
       stand =

@@ -39,5 +39,6 @@ returns-clause-idle g c some =
 pub returns-clause-none : goal.returns-clause-none
 returns-clause-none g c none =
     returns-clause-run g c
-    ∙ ap (λ n. after c.args.self.now (stretch c.args.self.now.view c.args.at.from.0 (c.args.at.first + c.args.i) n)) none
+    ∙ ap
+    (λ n. after c.args.self.now (stretch c.args.self.now.view c.args.at.from.0 (c.args.at.first + c.args.i) n)) none
     ∙ sym (after_none _ _ _)
