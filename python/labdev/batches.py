@@ -18,8 +18,9 @@ from labdev.edit_places import Placed
 ENDED = re.compile(r"(?m)^only=\d+ proved=\d+$")
 # A line by which the kept work of a library could not be used.
 STALE = re.compile(r"module .Rattle-\w+-.*Run the lower steps again")
+# A line of what the prover refuses, and one of what it has come to of a function or a type.
 ERROR = re.compile(r"(?:\./)?(\S+?):\d+:\d+: error")
-NOTE = re.compile(r"note: src/\S+:\d+:\d+: it is not proved ")
+NOTE = re.compile(r"note: (src/\S+?):(\d+):\d+: it is not proved ")
 VERDICT = re.compile(r"[a-z]+ (\S+): ((?:not |no |could not |assumed|proved|depends).*)")
 # A function that is not proved because of another.
 THROUGH = re.compile(r"\b(?:it calls|it passes|a call of|depends on)\b")
@@ -73,13 +74,21 @@ def is_of_batch(symbol: str, batch: Sequence[Placed]) -> bool:
     return any(is_same(symbol, it.function.name) for it in batch) or any(it in symbol for it in closures)
 
 
-def reason_for(told: Said, errors: Sequence[str]) -> Optional[str]:
+def goals_in(told: Said, one: Placed) -> List[str]:
+    """Returns the notes on goals that stand in the lines of the function of an edit. (An edit changes no number of
+    lines.)"""
+    found = ((NOTE.match(line), line) for line in told.notes)
+    return [line for at, line in found if at and at[1] == one.file and int(at[2]) in one.function.lines]
+
+
+def reason_for(told: Said, one: Placed, errors: Sequence[str]) -> Optional[str]:
     """Returns the first line of why a function itself is refused, or None where it may not be. Goals speak of what
     a function calls by contracts alone, so one that is not proved is its own, whatever else is not."""
-    if told.words.startswith("no proof: ") and "`search` did not prove `" in told.words and told.notes:
-        return told.notes[0]
+    goals = goals_in(told, one)
+    if told.words.startswith("no proof: ") and "`search` did not prove `" in told.words:
+        return goals[0] if goals else None
     if told.words == "not proved":
-        return next((it for it in [*errors, *told.notes] if not NAMES.search(it)), None)
+        return next((it for it in [*errors, *goals] if not NAMES.search(it)), None)
     return None
 
 
@@ -96,7 +105,7 @@ def answer_of(status: int, said: str, batch: Sequence[Placed]) -> Optional[Answe
         told = [it for symbol, it in found if is_same(symbol, one.function.name)]
         if not has_ended or not are_own or not are_well or len(told) != 1:
             return None
-        reason = reason_for(told[0], own)
+        reason = reason_for(told[0], one, own)
         if reason is not None:
             answer.refused[one.edit] = reason
         elif THROUGH.search(told[0].words):

@@ -18,10 +18,11 @@ SHARED = re.compile(r"-> *impl\b|^ *#\[cycle\b", re.MULTILINE)
 @dataclasses.dataclass(frozen=True)
 class Function:
     """A free function, or a method of a type itself: the name by which `rt check --only` takes it, the end of the path
-    of the folder with its proof, and where its attributes begin, and its body begins and ends, in its file."""
+    of the folder with its proof, its lines in its file, and where it begins there, and its body begins and ends."""
 
     name: str
     folder: str
+    lines: range
     start: int
     opened: int
     closed: int
@@ -91,7 +92,8 @@ def functions_of(crate: str, file: str, text: str) -> Iterator[Function]:
             name = f"{owner}::{head[2]}" if owner else f"{module_of(crate, file)}::{head[2]}"
             folder = "/".join(name.split("::")[0 if owner else 1 :])
             first = first_above(lines, number)
-            yield Function(name, folder, starts[first], starts[body[0] + 1], starts[body[1]])
+            numbers = range(first + 1, body[1] + 2)
+            yield Function(name, folder, numbers, starts[first], starts[body[0] + 1], starts[body[1]])
 
 
 def changes_of(edit: str) -> Optional[Tuple[str, List[Tuple[str, str]]]]:

@@ -26,7 +26,11 @@ if words[0] != "check":
     print("3 passed, 0 failed")
     sys.exit()
 symbol_of = {"low::one": "low::one", "low::three": "low::three", "Pair::two": "low::pair::Pair::two"}
-text = "".join(it.read_text() for it in sorted(pathlib.Path("src").rglob("*.rt")))
+texts = {it: it.read_text() for it in sorted(pathlib.Path("src").rglob("*.rt"))}
+text, place_of = "".join(texts.values()), {}
+for path, lines in texts.items():
+    for number, line in enumerate(lines.split("\\n"), 1):
+        place_of.update({it: f"{path}:{number}:5" for it in re.findall(r"\\bfn (\\w+)", line)})
 status, asked = 0, words[2::2]
 if "broken" in text:
     print("src/lib.rt:1:1: error: it is no Rust")
@@ -35,8 +39,9 @@ for name in asked:
     symbol, last = symbol_of[name], name.split("::")[-1]
     body = re.search(r"(?ms)^( *)(?:pub )?fn " + last + r"\\b.*?^\\1}$", text)[0]
     words = "proved"
+    note = f"note: {place_of[last]}: it is not proved that it ensures this (`returns`)"
     if "wrong" in body:
-        print("note: src/lib.rt:1:5: it is not proved that it ensures this (`returns`)")
+        print(note.replace(":5:", ":50:", 1) if "elsewhere" in body else note)
         words = "no proof: expected answers in ./proofs/Answers.antt; `search` did not prove `returns`"
         words += "; it calls `low::one`, which is not proved" if "beside" in body else ""
     elif "through" in body:
@@ -47,7 +52,7 @@ for name in asked:
     elif "renamed" in body:
         print(f"./proofs/{last}/Answers.antt:6:5: error: `gone` is not in scope")
         if "goal" in body:
-            print("note: src/lib.rt:1:5: it is not proved that it ensures this (`returns`)")
+            print(note)
         words = "not proved"
     elif "lemma" in body:
         print("./proofs/Lemmas.antt:6:5: error: `rule` was not admitted")
@@ -108,7 +113,8 @@ impl Number for Pair {
 """
 FIRST, SECOND, ALONE = "check --only low::one", "check --only Pair::two", "must-fail low"
 CHECKED = f"{FIRST} --only Pair::two"
-NOTE = "note: src/lib.rt:1:5: it is not proved that it ensures this (`returns`)"
+NOTE = "note: src/lib.rt:5:5: it is not proved that it ensures this (`returns`)"
+OTHER = NOTE.replace("lib", "pair")
 REFUSED = "rt: must-fail low/first.edit: refused, as it must be: src/lib.rt:1:1: error"
 
 
@@ -237,7 +243,10 @@ class Batches(Repository):
         for second in "wrong", "wrong beside":
             with self.subTest(second=second):
                 self.edit_both("wrong", second)
-                lines = [f"low/{it}.edit: refused with others: {NOTE}" for it in ("first", "second")]
+                lines = [
+                    f"low/first.edit: refused with others: {NOTE}",
+                    f"low/second.edit: refused with others: {OTHER}",
+                ]
                 self.says(0, [*lines, "2 wrong bodies refused in 1 crates"], "low")
                 # (once without the edits, and once with both)
                 self.assertEqual(self.called(), [CHECKED, CHECKED])
@@ -264,6 +273,7 @@ class Batches(Repository):
             # what is said of one function alone
             "through": [CHECKED, CHECKED, FIRST, ALONE],
             "renamed": [CHECKED, CHECKED, ALONE],
+            "wrong elsewhere": [CHECKED, CHECKED, ALONE],
             "uncovered": [CHECKED, CHECKED, ALONE],
             # what makes a check say nothing of either
             **{it: halves for it in ("lemma", "limit", "killed", "broken", "unsaid", "other", "endless")},
@@ -271,7 +281,11 @@ class Batches(Repository):
         for said, calls in checks.items():
             with self.subTest(said=said):
                 self.edit_both(said)
-                lines = [f"low/second.edit: refused with others: {NOTE}", REFUSED, "2 wrong bodies refused in 1 crates"]
+                lines = [
+                    f"low/second.edit: refused with others: {OTHER}",
+                    REFUSED,
+                    "2 wrong bodies refused in 1 crates",
+                ]
                 self.says(0, lines, "low")
                 self.assertEqual(self.called(), calls)
 
