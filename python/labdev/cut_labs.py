@@ -206,6 +206,10 @@ def pages_in(reader: snapshot.Reader) -> List[int]:
     return [at for at, path, _ in reader.seen if path.endswith(".used")]
 
 
+def is_in_a_page(at: int, pages: List[int]) -> bool:
+    return any(page <= at < page + snapshot.PAGE for page in pages)
+
+
 def missing_in_small(data: bytes) -> Set[str]:
     """Returns what the small sample does not have that it is to show."""
     held, reader = snapshot.read(data)

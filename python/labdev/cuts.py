@@ -35,7 +35,7 @@ from typing import Callable, Iterable, Iterator, List, Optional, Set, Tuple
 
 from labdev import cut_labs, trials
 from labdev.cases import Files
-from labdev.cut_labs import board, pages_in
+from labdev.cut_labs import board, is_in_a_page, pages_in
 from labtools.boards import snapshot
 from labtools.common.program import TOP, end_unless, path_of_program
 from labtools.scripts import resc
@@ -205,10 +205,6 @@ def sample(room: Room) -> bytes:
 
 def with_bytes(data: bytes, at: int, new: bytes) -> bytes:
     return data[:at] + new + data[at + len(new) :]
-
-
-def is_in_a_page(at: int, pages: List[int]) -> bool:
-    return any(page <= at < page + snapshot.PAGE for page in pages)
 
 
 def damaged(name: str, data: bytes, reader: snapshot.Reader, is_tried: Callable[[int], bool]) -> Iterator[Damaged]:

@@ -7,20 +7,15 @@ It takes the words of unittest: modules, classes or tests by their names, and `-
 import io
 import sys
 import unittest
-from typing import List
-
-
-def passed_over(result: unittest.TestResult) -> List[str]:
-    """Returns a line for each cause of a test that was skipped: `WHAT, without PROGRAM`, as ./test looks for it."""
-    return list(dict.fromkeys(f"passed over: {cause}" for _, cause in result.skipped))
 
 
 def main() -> None:
     told = io.StringIO()
     runner = unittest.TextTestRunner(stream=told, verbosity=0)
     result = unittest.main(module=None, exit=False, testRunner=runner, buffer=True).result
-    for line in passed_over(result):
-        print(line)
+    # ./test looks for these lines. A cause is `WHAT, without PROGRAM`.
+    for cause in dict.fromkeys(cause for _, cause in result.skipped):
+        print(f"passed over: {cause}")
     is_well = result.wasSuccessful() and result.testsRun > 0
     if not is_well:
         print(told.getvalue(), end="")

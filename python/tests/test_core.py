@@ -357,7 +357,7 @@ class Faults(Cores):
         kept = (self.room / "kept").read_bytes()
         _, reader = snapshot.read(kept)
         pages = cut_labs.pages_in(reader)
-        places = [at for at in range(8, len(kept)) if not any(page <= at < page + snapshot.PAGE for page in pages)]
+        places = [at for at in range(8, len(kept)) if not cut_labs.is_in_a_page(at, pages)]
         chance = random.Random(1)
         refused = 0
         for _ in range(400):

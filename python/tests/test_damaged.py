@@ -95,7 +95,7 @@ def damaged_snapshots(whole: List[bytes], count: int, chance: random.Random) -> 
     for data in whole:
         _, reader = snapshot.read(data)
         pages = cut_labs.pages_in(reader)
-        places = [at for at in range(len(data)) if not any(page <= at < page + snapshot.PAGE for page in pages)]
+        places = [at for at in range(len(data)) if not cut_labs.is_in_a_page(at, pages)]
         for number in range(count // 2):
             # one of four in a count, of which its lowest byte tells most
             yield damaged(data, places if number % 4 else reader.counts, chance)

@@ -40,10 +40,6 @@ def is_defined(name: str) -> bool:
     return any(name in crate.types or name in crate.definitions for crate in CRATES.values())
 
 
-def is_type(name: str) -> bool:
-    return name[0].isupper() and is_defined(name)
-
-
 def filled(rows: List[List[str]]) -> Iterator[List[str]]:
     """Yields the rows of a table, with the first cell of the row before where it is empty."""
     first = ""
@@ -60,7 +56,7 @@ def wrong_contracts(crate: str, cell: str) -> List[str]:
     among = {crate, *names_in(cell)} & set(CRATES)
     for name in names_in(cell):
         functions = [it for it in named(CRATES, name) if it.crate in among]
-        if name in clauses or name in CRATES or is_type(name):
+        if name in clauses or name in CRATES or (name[0].isupper() and is_defined(name)):
             continue
         clauses |= clauses_of(CRATES, functions)
         wrong += [] if functions else [name]

@@ -1,5 +1,5 @@
 """Whether each part that a board of a snapshot names is there, as machine.py needs it. `lab` asks for much more."""
-from typing import Any, Dict, Iterator, List, Tuple
+from typing import Any, Dict, Iterator, Tuple
 
 from labtools.boards.snapshot import NoSnapshot
 
@@ -61,13 +61,9 @@ def faults(machine: Dict[str, Any]) -> Iterator[str]:
             yield f"{len(state[name])} {name} are not one for each of {len(plan['processors'])} processors"
     if any(wire["from"][0] == "context" and wire["to"][0] == "source" for wire in plan["wires"]):
         yield "a wire leads from the interrupt controller to itself"
-    if is_there(state["controller"]) and "controller" not in kinds_of(plan):
+    kinds = [entry["what"][1][""][0] for entry in plan["names"] if entry["what"][0] == "part"]
+    if is_there(state["controller"]) and "controller" not in kinds:
         yield "the interrupt controller has no name"
-
-
-def kinds_of(plan: Dict[str, Any]) -> List[str]:
-    """Returns the kinds of the parts that have names."""
-    return [entry["what"][1][""][0] for entry in plan["names"] if entry["what"][0] == "part"]
 
 
 def check(board: str, machine: Dict[str, Any]) -> None:

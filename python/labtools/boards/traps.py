@@ -27,11 +27,6 @@ def is_exception(state: Dict[str, int]) -> bool:
     return not state["mcause"] & INTERRUPT and bool(state["mcause"] or state["mtval"] or state["mepc"])
 
 
-def is_at_first_instruction(hart: Hart) -> bool:
-    """Whether the handler's first instruction has trapped and is the next one again."""
-    return bool(hart.pc == hart.state["mtvec"] & ~3 == hart.state["mepc"])
-
-
 def is_within_handler(stack: Stack, frames: List[Frame]) -> bool:
     """Whether the place of the last trap is in the handler, or in a function that the handler has called."""
     place = stack.hart.state["mepc"]
@@ -50,7 +45,8 @@ def loop_of(hart: Hart, stack: Stack, frames: List[Frame]) -> Optional[TrapLoop]
     entries = max(state["mcycle"] - state["minstret"], 1)
     if state["halted"] or state["waiting"] or not is_exception(state):
         return None
-    is_first = is_at_first_instruction(hart)
+    # The handler's first instruction has trapped, and is the next one again.
+    is_first = bool(hart.pc == state["mtvec"] & ~3 == state["mepc"])
     if not is_first and (entries < FEWEST or not is_within_handler(stack, frames)):
         return None
     return TrapLoop(entries, state["mie"] != 0, state["mcause"], state["mepc"], is_first)

@@ -1,8 +1,8 @@
 """Prints what the module `where` says, for people."""
-from typing import Iterator, List
+from typing import Iterator
 
 from labtools.boards.interrupts import Source
-from labtools.boards.where import BoardReport, HartReport, Interrupts, Place, Report, StackFrame, Waiting
+from labtools.boards.where import BoardReport, HartReport, Interrupts, Place, Report, Waiting
 from labtools.logs.log_lines import time_text
 
 REGISTERS_IN_A_LINE = 4
@@ -33,10 +33,6 @@ def handler_text(hart: HartReport) -> str:
     return place_text(hart.handler) + (", a table" if hart.mtvec & 1 else "")
 
 
-def stack_line(number: int, frame: StackFrame) -> str:
-    return f"{number:2} {place_text(frame.place)}{MARKS[frame.how]}{' ?' if frame.is_guess else ''}"
-
-
 def hart_lines(hart: HartReport) -> Iterator[str]:
     yield f"  {hart.name}: hart {hart.number}, {hart.state}"
     yield f"    pc         {place_text(hart.pc)}"
@@ -49,7 +45,8 @@ def hart_lines(hart: HartReport) -> Iterator[str]:
         yield f"    last trap  {trap.words}, mcause 0x{trap.mcause:08x}, mtval 0x{trap.mtval:08x}"
         yield f"               at {place_text(trap.place)}"
     for number, frame in enumerate(hart.stack):
-        yield f"    {'stack' if number == 0 else '':8}{stack_line(number, frame)}"
+        of, mark = "stack" if number == 0 else "", MARKS[frame.how] + (" ?" if frame.is_guess else "")
+        yield f"    {of:8}{number:2} {place_text(frame.place)}{mark}"
     registers = [f"{name:>4} 0x{value:08x}" for name, value in hart.registers.items()]
     for first in range(0, len(registers), REGISTERS_IN_A_LINE):
         yield "    " + "  ".join(registers[first : first + REGISTERS_IN_A_LINE])
@@ -64,14 +61,11 @@ def byte_text(byte: int) -> str:
     return f"\\{chr(byte)}" if chr(byte) in '"\\' else chr(byte)
 
 
-def bytes_text(received: List[int]) -> str:
-    return "".join(map(byte_text, received))
-
-
 def waiting_line(device: Waiting) -> str:
     kind = {"uart": "byte", "can": "frame"}[device.kind]
     count = len(device.received)
-    text = f'"{bytes_text(device.received)}"' if device.kind == "uart" else ", ".join(device.received)
+    is_uart = device.kind == "uart"
+    text = f'"{"".join(map(byte_text, device.received))}"' if is_uart else ", ".join(device.received)
     told = [f"{count} {kind}{'s' * (count != 1)} wait{'s' * (count == 1)}: {text}"] if count else []
     return f"  {device.name}: " + "; ".join(told + ["some were lost"] * device.overrun)
 

@@ -41,10 +41,6 @@ def openings(count: int) -> List[str]:
     return [" ".join(opening) for opening in rows if len(opening) == count]
 
 
-def of_processors() -> List[str]:
-    return [row.opening[1] for row in resc.ROWS if row.opening[0] == "*"]
-
-
 def without_blank(word: str) -> Optional[str]:
     """The command whose second word stands alone, as `LoadELF`, or behind a point, as `sysbus.LoadELF`."""
     own = word.lower().split(".")[-2:]
@@ -55,11 +51,12 @@ def without_blank(word: str) -> Optional[str]:
 def near_command(words: Sequence[str]) -> Optional[Tuple[str, str]]:
     """The words that are nearly a command's, and the command."""
     first, second = words[0], "".join(words[1:2])
+    of_processors = [row.opening[1] for row in resc.ROWS if row.opening[0] == "*"]
     pairs = (
         (first, without_blank(first)),
         (f"{first} {second}", near(f"{first} {second}", openings(2)) if second else None),
         (first, near(first, openings(1))),
-        (second, near(second, of_processors())),
+        (second, near(second, of_processors)),
     )
     return next(((own, other) for own, other in pairs if other), None)
 
