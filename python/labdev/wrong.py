@@ -2,7 +2,7 @@
 
     tools/wrong NAME ..    tries those of these crates
     tools/wrong --stale    those of the crates whose sources or edits have changed since they were tried
-    tools/wrong --all      those of every crate: some three hours
+    tools/wrong --all      those of every crate: some two hours
     tools/wrong --check    tries nothing, and says which crates have changed since; .ci/run asks this
 
 It works on a copy of the tree, with the libraries that this checkout has built; `rt` builds those that are missing or
