@@ -48,7 +48,8 @@ shifted n c k whole some fits =
     let twice : 2 * 2 ^ c * 2 ^ k ≡ 2 ^ 32 = omega (arith, whole) in
     by_test n (2 ^ c) _ n (n + (2 ^ 32 - 2 * 2 ^ c))
     (λ less. low n k (below_half n (2 ^ c) (2 ^ k) whole less some))
-    (λ most. high n (2 * 2 ^ c - suc n) k (rw gap twice) (above_half n (2 ^ c) (2 ^ k) whole most) some ∙ omega (arith, fits, top))
+    (λ most. high n (2 * 2 ^ c - suc n) k (rw gap twice) (above_half n (2 ^ c) (2 ^ k) whole most) some
+    ∙ omega (arith, fits, top))
 
 -- the same as the code writes it, which reads a number's bits and writes them again at each step
 pub word_shifted :
