@@ -20,21 +20,21 @@ lend_all-requires-clause-count g c =
     ap length c.in_ok-boss.ensures.passes ∙ count_of c.in_ok-boss.boss.mail (length c.args.boards.now)
 
 pub run_boards_in_order-requires-clause-sent : goal.run_boards_in_order-requires-clause-sent
-run_boards_in_order-requires-clause-sent g c =
+run_boards_in_order-requires-clause-sent g c κs within =
     rw c.in_ok-jobs.ensures.jobs
     (All-weaker HasRoom (λ (p : BoardJob). p.board.posts ≡ []) (λ p has. has.quiet) _
     (all_have_room c.in_ok-boss.boss.mail c.args.from.0 c.args.q c.requires.within c.args.boards.now
     c.requires.standing))
 
 pub run_boards_in_order-requires-clause-posts : goal.run_boards_in_order-requires-clause-posts
-run_boards_in_order-requires-clause-posts g c =
+run_boards_in_order-requires-clause-posts g c κs within =
     rw c.in_ok-jobs.ensures.jobs
     (All-weaker HasRoom (λ (p : BoardJob). p.board.view.numbers.posted + left p.grant < 2 ^ 64) (λ p has. has.posts) _
     (all_have_room c.in_ok-boss.boss.mail c.args.from.0 c.args.q c.requires.within c.args.boards.now
     c.requires.standing))
 
 pub run_boards_in_order-requires-clause-entries : goal.run_boards_in_order-requires-clause-entries
-run_boards_in_order-requires-clause-entries g c =
+run_boards_in_order-requires-clause-entries g c κs within =
     rw c.in_ok-jobs.ensures.jobs
     (All-weaker HasRoom (λ (p : BoardJob). p.board.view.numbers.entered + left p.grant < 2 ^ 64) (λ p has. has.entries)
     _
