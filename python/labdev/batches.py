@@ -114,8 +114,7 @@ def answer_of(status: int, said: str, batch: Sequence[Placed]) -> Optional[Answe
 
 
 def check_of(folder: pathlib.Path, batch: Sequence[Placed]) -> Tuple[int, str]:
-    """Has the functions of a batch checked as they stand in a crate's folder, and returns how that ended, and what was
-    said."""
+    """Runs `rt check` on the functions of a batch, and returns its exit status and its output."""
     names = dict.fromkeys(it.function.name for it in batch)
     ran = subprocess.run(
         ["rt", "check", *(word for name in names for word in ("--only", name))],
