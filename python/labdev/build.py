@@ -2,11 +2,10 @@
 
     tools/build [LANES]
 
-`rt all` proves each crate as soon as the crates that it uses are proved, so many at a time. (Several calls of `rt`
-would not run side by side: each keeps others away from all crates below its own.) There are as many lanes as
-processors, and fewer if memory is short; LANES is a number from 1 to 999. A crate that was proved before and has not
-changed takes seconds. It first says about how long it will take, and on the way how much is done, counted by the lines
-of the crates that are new or have changed. It ends with 0 if the program is built, and else with 1; with 2 if it is
+`rt all` proves each crate as soon as the crates that it uses are proved, LANES at a time: by default as many as there
+are processors, and fewer if memory is short; at most 999. A crate that was proved before and has not changed takes
+seconds. It first estimates how long it will take, and then prints how much is done, counted in lines of the crates that
+are new or have changed. It ends with 0 if the program is built, and else with 1; with 2 if it is
 called wrongly; and with 130 if it was interrupted.
 """
 import hashlib

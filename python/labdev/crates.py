@@ -1,13 +1,13 @@
-"""Prints the crates by layer, as crates.txt has them: a crate stands one layer above the highest that it uses.
+"""Prints the crates of crates.txt by layer: a crate is one layer above the highest that it uses.
 
     tools/crates            the crates of the program, the highest layer first
-    tools/crates --chain    one longest way down from lab_cli, which no build can do side by side
+    tools/crates --chain    a longest chain down from lab_cli, which no build can shorten
     tools/crates --heads    the crates of the program as a table: what each is, and which crates it uses
     tools/crates --others   the same table of the crates beside the program: laws, tests, and other programs
 
-What a crate is, is the first sentence of the comment at the head of its src/lib.rt or src/main.rt. A table begins with
-the highest layer. Libraries of the kit are left out. It ends with 0, with 1 where a crate has no such comment or the
-output cannot be written, and with 2 where its words are wrong.
+A table begins with the highest layer, and describes a crate by the first sentence of the comment at the head of its
+src/lib.rt or src/main.rt. Libraries of the kit are left out. It ends with 0; with 1 if a crate has no such comment or
+the output cannot be written; and with 2 if its words are wrong.
 """
 import functools
 import itertools

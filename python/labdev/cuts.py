@@ -1,25 +1,24 @@
-"""Tries snapshots on the program that stands built.
+"""Tests `Save` and `Load`: cuts laboratories in two, and damages snapshots.
 
     tools/cuts
 
-Each demo is cut at each of its commands: the commands before it and `Save`, and in a new run `Load` and the commands
-from there on, with one, two and eight workers, have to print and to answer what the whole script does. `start` runs to
-0.02 seconds. What is loaded is saved again, with the same bytes. The lines that are open where a script ends are
-printed there, so they are printed by both halves: the first half's are passed over. A laboratory of sixteen boards is
-cut in the same way, at many times. It has all there is: four processors, one halted, one waiting and one with a
-reservation, a claimed interrupt, full FIFOs, bytes and frames under way, held frames, and open lines.
+Each demo is cut at each of its commands. One run takes the commands before it and `Save`, and a new run `Load` and the
+rest, with one, two and eight workers. Together they must print and end as the whole script does. `start` runs to 0.02
+seconds. What is loaded is saved again, and must give the same bytes. Both halves print the lines that are open at the
+cut; those of the first half are ignored. A laboratory of sixteen boards is cut in the same way, at many times. It has
+everything: four processors, one halted, one waiting and one with a reservation, a claimed interrupt, full FIFOs, bytes
+and frames in flight, held frames, and open lines.
 
-Two snapshots are then damaged. One is of less than 2 KB, without a page of memory: a board of two processors, a timer,
-an interrupt controller, a UART and a CAN controller that hold something, a board with the two devices alone, hubs with
-delays, a byte and a frame under way, and open lines. Every byte of it is changed, in two ways, and it is cut off at
-every length. The other, of 9 KB, is of two boards with a hub, a byte under way and an open line. Of this one all bytes
-and lengths outside pages of memory are tried, and each 97th inside them; a page has zeros only, pages do not rise, or
-one comes twice. To both a byte is added, and each count of a list is 2^64 - 1. Each is refused as S20, or is a
-laboratory that is saved again to exactly those bytes. No memory is taken for a count that the bytes cannot hold. A
-snapshot of 64 MiB is kept and taken back; one of a byte more is refused as S19, and so is a file of that size.
+Two snapshots are then damaged. One has less than 2 KB and no page of memory: a board of two processors, a timer, an
+interrupt controller, a UART and a CAN controller that hold something, a board with only the two devices, hubs with
+delays, a byte and a frame in flight, and open lines. Each of its bytes is changed in two ways, and it is cut off at
+each length. The other has 9 KB: two boards with a hub, a byte in flight and an open line. All its bytes and lengths
+outside pages of memory are tried, and each 97th inside them; a page has only zeros, pages do not rise, or one comes
+twice. To both a byte is added, and each count of a list becomes 2^64 - 1. Each must be refused as S20, or be a
+laboratory that is saved again as exactly those bytes, and no memory may be taken for a count that the bytes cannot
+hold. A snapshot of 64 MiB is saved and loaded; one with a byte more is refused as S19, and so is a file of that size.
 
-Nothing is printed but what is wrong. It ends with 0 where nothing was, with 1 where something was, and with 2 where it
-is given words.
+It prints only what is wrong. It ends with 0; with 1 if something was wrong; and with 2 if it is given words.
 """
 import concurrent.futures
 import contextlib

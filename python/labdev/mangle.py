@@ -2,7 +2,7 @@
 byte changed, dropped or doubled. A snapshot that an earlier run of a case makes is one of them.
 
     tools/mangle              at every place of every file
-    tools/mangle COUNT        so many damaged files, drawn from a fixed seed
+    tools/mangle COUNT        COUNT damaged files, drawn from a fixed seed
     tools/mangle COUNT SEED   drawn from another seed
 
 `lab check` checks each damaged laboratory, and then it is run. These are faults: an end by a signal, or with a status

@@ -5,17 +5,16 @@
 
 Each workload is run at two lengths under valgrind's callgrind, and the difference of the counts is divided by the
 difference of the work; `gen` is run once, and counted from its start. The counts do not depend on what else the machine
-does. NAME is a workload, or what stands on one side of its stroke: `jumps/a`, `jumps`, `a`. Without names all are
-counted, which takes some minutes. docs/SPEED.md says what the workloads are, and what was counted.
+does. NAME is a workload or a part of its name: `jumps/a`, `jumps` or `a`. Without names all are counted, which takes
+some minutes. docs/SPEED.md describes the workloads and has the counts.
 
-    --lab PROGRAM    counts this program, and else that of the variable LAB, or the one that ./lab runs
+    --lab PROGRAM    counts this program; by default that of the variable LAB, or the one that ./lab runs
     --keep FILE      writes the counts to a file, each as it is known
-    --against FILE   prints besides each count what an earlier one was, from such a file, and the change in a hundred
+    --against FILE   prints beside each count an earlier one, from such a file, and the change in percent
     --list           prints the names of the workloads, and runs nothing
 
-It prints tables in Markdown. It ends with 0, with 1 where a run has failed or the tables cannot be written, with 2
-where its words are wrong, a file cannot be read or there is no such program, and with 3 where valgrind is not
-installed.
+It prints tables in Markdown. It ends with 0; with 1 if a run failed or the tables cannot be written; with 2 if its
+words are wrong, a file cannot be read or there is no such program; and with 3 if valgrind is not installed.
 """
 import argparse
 import json

@@ -2,8 +2,8 @@
 hundredth up to its last, in a run of its own.
 
     tools/starve            six runs: one board, four boards by two workers, a usual script, sixteen boards, two boards
-                            that are kept, and these taken back
-    tools/starve FIRST      each of the first so many requests
+                            that are saved, and these loaded again
+    tools/starve FIRST      each of the first FIRST requests
 
 A run must end like the run that is refused nothing, or with 1 and a beginning of what that one prints: never by a
 signal, late, with other bytes, or with more blocks of memory not freed. Each has a folder of its own, with the snapshot

@@ -1,19 +1,19 @@
-"""Times what workers bring: runs of sixteen boards by one, two, four and eight workers.
+"""Times runs of sixteen boards by one, two, four and eight workers.
 
     tools/workers [--lab PROGRAM] [--times N] [NAME ..]
     tools/workers --list
 
-Each run is made N times, five where nothing else is said, by each number of workers in turn, and the least is told: the
-seconds that it took, and in brackets those of all processors. It says something only where as many processors as there
-are workers have nothing else to do. The logs of a run have to be the same, whoever made it. Without names all are
-timed, which takes two minutes. docs/SPEED.md has the figures of one machine.
+Each run is made N times, five by default, with each number of workers in turn. The fastest is printed: its seconds, and
+in brackets those of all processors. The figures mean something only if as many processors as workers are otherwise
+idle. The logs of a run must be the same with every number of workers. Without names all are timed, which takes two
+minutes. docs/SPEED.md has the figures of one machine.
 
-    --lab PROGRAM    times this program, and else that of the variable LAB, or the one that ./lab runs
-    --times N        makes each run so many times
+    --lab PROGRAM    times this program; by default that of the variable LAB, or the one that ./lab runs
+    --times N        makes each run N times
     --list           prints the names of the runs, and makes none
 
-It prints a table in Markdown. It ends with 0, with 1 where a run has failed, the logs differ or the table cannot be
-written, and with 2 where its words are wrong or there is no such program.
+It prints a table in Markdown. It ends with 0; with 1 if a run failed, the logs differ or the table cannot be written;
+and with 2 if its words are wrong or there is no such program.
 """
 import resource
 import subprocess

@@ -1,4 +1,4 @@
-"""Tries the wrong bodies that stand beside the crates: the prover has to refuse each edit in crates/NAME/wrong/.
+"""Tries the wrong bodies of crates: the prover has to refuse each edit in crates/NAME/wrong/.
 
     tools/wrong NAME ..    tries those of these crates
     tools/wrong --stale    those of the crates whose sources or edits have changed since they were tried
@@ -6,13 +6,13 @@
     tools/wrong --check    tries nothing, and says which crates have changed since; .ci/run asks this
 
 It works on a copy of the tree, with the libraries that this checkout has built; `rt` builds those that are missing or
-out of date. Edits of the bodies of different functions lie on the copy together, and `rt check --only F --only G ..`
-tries them. `refused with others` is said of an edit whose function has a goal of its own that is not proved, and that
-is proved by the same command without the edits. Every other edit is tried alone by `rt must-fail NAME`, which decides:
-one of a contract, a method of a trait, a type or a constant, and one of which the check of its function says nothing.
-Where all edits of a crate were refused, crates/NAME/wrong/tried gets the sum of the crate's own sources and the sum of
-each edit. Commit it with the change. It ends with 0, with 1 where an edit was not refused or a crate has changed since
-its edits were tried, and with 2 where it is called otherwise.
+out of date. Edits of the bodies of different functions are made together, and `rt check --only F --only G ..` tries
+them. An edit is `refused with others` if its function then has a goal that is not proved, and that the same command
+proves without the edits. All other edits are tried one by one with `rt must-fail NAME`: those of a contract, a method
+of a trait, a type or a constant, and those of which the check of their function says nothing. If all edits of a crate
+were refused, crates/NAME/wrong/tried gets the sum of the crate's own sources and the sum of each edit. Commit it with
+the change. It ends with 0; with 1 if an edit was not refused or a crate has changed since its edits were tried; and
+with 2 if it is called wrongly.
 """
 import os
 import pathlib

@@ -1,4 +1,4 @@
-"""Writes what each board is at a lab time as an ELF core file, which gdb opens.
+"""Writes the state of each board at a lab time as an ELF core file, which gdb opens.
 
     tools/core [--at TIME] [--until TIME] SCRIPT or SNAPSHOT FOLDER
 
@@ -69,7 +69,7 @@ def lines_of(board: Dict[str, Any], images: List[str], folder: pathlib.Path) -> 
         yield f"{name}: it has no platform, so no core is written"
         return
     harts = len(board["machine"][1][""]["plan"]["processors"])
-    known = "" if images else "; no ELF file is known of it: FILE.elf stands for yours"
+    known = "" if images else "; its ELF file is not known: put yours in place of FILE.elf"
     first, *rest = dict.fromkeys(images or ["FILE.elf"])
     yield f"{name}: {harts} hart{'s' * (harts != 1)}{known}"
     more = [f" -ex {shlex.quote(f'add-symbol-file {word(it)}')}" for it in rest]

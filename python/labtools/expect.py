@@ -7,7 +7,7 @@ If they differ it prints a diff with line numbers, in which equal accesses that 
 
   0       lab ended with 0, and the log equals LOG (or was kept)
   1       lab ended with 0, and the log differs; or a test failed (`pause .. fail`) that does not fail in LOG; or LOG is
-          missing or empty: an empty one tests nothing, whatever is printed
+          missing or empty
   2 to 6  lab's own status: wrong words, a refused line, a file not read, the output or a snapshot not written
   70, 71  those of ./lab: no kit, or a failed build
   72      lab ended with 1: out of memory

@@ -170,7 +170,7 @@ def main(words: List[str]) -> int:
     if len(given.logs) > (2 if given.html else 1):
         parser.error("too many logs")
     if given.logs.count("-") > 1:
-        parser.error("one log alone can be the standard input")
+        parser.error("only one log can be the standard input")
     write(given, [read(name, is_folded=given.trace or given.html is not None) for name in given.logs])
     return 0
 

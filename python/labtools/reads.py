@@ -73,5 +73,6 @@ def main(words: List[str]) -> int:
     else:
         tell_reading(reading)
     if reading.unseen:
-        print(shown(f"{name_of_script()}: {reading.unseen} is not a plain file, and is left to lab"), file=sys.stderr)
+        told = f"{name_of_script()}: {reading.unseen} is not a plain file, so only lab may read it"
+        print(shown(told), file=sys.stderr)
     return 0 if reading.refusal is None and all(file.is_there for file in reading.files) else 1

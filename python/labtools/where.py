@@ -1,4 +1,4 @@
-"""Says where the firmware of each board stands, and why it may not go on.
+"""Says where the firmware of each board is, and why it may be stuck.
 
     tools/where [--at TIME] [--until TIME] [--json] SCRIPT or SNAPSHOT [BOARD=ELF ..]
 

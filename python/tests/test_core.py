@@ -276,7 +276,7 @@ class Files(Cores):
         """The first of the asker's four instructions comes at 16."""
         self.lab("ask.resc", "Save @kept")
         self.core("ask.resc", "cores")
-        line = "no ELF file is known of it: FILE.elf stands for yours"
+        line = "its ELF file is not known: put yours in place of FILE.elf"
         lines = self.core("kept", "others")
         self.assertEqual((lines[0], lines[1]), ("at 0.001000", f"asker: 1 hart; {line}"))
         self.assertRegex(lines[2], r"^    \S*gdb\S* FILE\.elf others/asker\.core$")
@@ -314,7 +314,7 @@ class Faults(Cores):
             with self.subTest(kind=kind):
                 make(path)
                 before = os.lstat(path).st_ino, self.held("others")
-                self.refuses("others/answerer.core: it is not a core of a board, and is left alone", "kept", "others")
+                self.refuses("others/answerer.core: it is not a core of a board, and is not replaced", "kept", "others")
                 self.assertEqual((os.lstat(path).st_ino, self.held("others")), before)
                 self.assertEqual(os.listdir(cores), ["answerer.core"])
                 path.rmdir() if path.is_dir() else path.unlink()
@@ -349,7 +349,7 @@ class Faults(Cores):
         ):
             self.write("bad", kept.replace(old, new))
             env = {**os.environ, "LAB": "/none/lab"}
-            self.refuses(f"bad: no snapshot of lab: {said}", "bad", "cores", env=env)
+            self.refuses(f"bad: not a snapshot of lab: {said}", "bad", "cores", env=env)
         (self.room / "bad").unlink()
         self.assertEqual(self.held(), before)
 
@@ -393,7 +393,7 @@ class Faults(Cores):
                 self.refuses(line, *words.split())
         status, _, told = self.call("cut", "cores")
         self.assertEqual(status, 1)
-        self.assertIn("tools/core: cut: no snapshot of lab: ends within a value", told)
+        self.assertIn("tools/core: cut: not a snapshot of lab: ends within a value", told)
         self.assertFalse((self.room / "cores").exists())
         self.assertEqual(self.read("file"), "mine")
 

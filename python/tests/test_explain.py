@@ -28,7 +28,7 @@ TRIALS: List[Tuple[str, str, str]] = [
     ("cpu LogFunctionNames true", "S1", "Leave it out. The log has what shown devices send"),
     ("logFile @a.log", "S1", "Leave it out, and send the output to a file"),
     ("machine StartGdbServer 3333", "S1", "Leave it out: no debugger can be joined"),
-    ('sysbus Tag <0x40021000, 0x400213ff> "RCC" 0x1', "S1", "Leave it out: an access where nothing stands is a line"),
+    ('sysbus Tag <0x40021000, 0x400213ff> "RCC" 0x1', "S1", "Leave it out: an access to an unmapped address is a line"),
     ("cpu VectorTableOffset 0x80000000", "S1", "Leave it out: firmware for RISC-V sets `mtvec` itself"),
     ("sysbus.uart WriteChar 0x41", "S1", "A script sends no bytes to a UART, but a board on its hub can"),
     ('sysbus.uart WriteLine "help"', "S1", "A script sends no bytes to a UART, but a board on its hub can"),
@@ -156,7 +156,7 @@ SAID: List[Tuple[Files, int, str, List[str]]] = [
             "lab:   s.resc:2: machine LoadPlatformDescription @p.repl",
             'lab:   p.repl:1: using "q.repl"',
             "lab:   q.repl:4: gpio: GPIOPort.None @ sysbus 0x0",
-            'lab: docs/PLATFORMS.md: there is no such type; types are told apart by case. Take one of "Types"; for'
+            'lab: docs/PLATFORMS.md: there is no such type; capital and small letters differ. Take one of "Types"; for'
             " registers that only keep what is stored a `Memory.MappedMemory` does",
         ],
     ),
@@ -402,8 +402,8 @@ class Started(Explained):
         self.ends(0, [], "check", "done.resc")
         self.ends(2, [], "run")
         self.ends(2, [], "run", "missing.resc", "--until", "x")
-        cure = 'the first words are no command. Begin the line with a command of "Commands"; capital and small letters'
-        said = ["lab:   refused.resc:1: cpu", f"lab: docs/SCRIPTS.md: {cure} differ"]
+        cure = 'the first words are not a command. Begin the line with a command of "Commands"; capital and small'
+        said = ["lab:   refused.resc:1: cpu", f"lab: docs/SCRIPTS.md: {cure} letters differ"]
         self.ends(3, said, "run", "refused.resc")
         self.ends(4, ["lab: a is not there", "lab:   missing.resc:1: include @a"], "run", "missing.resc")
         self.ends(6, ["lab: kept is not there", "lab:   kept.resc:1: Load @kept"], "run", "kept.resc")

@@ -13,7 +13,7 @@ ours, theirs = socket.socketpair()
 theirs.close()
 sys.exit(subprocess.run(sys.argv[1:], stdout=ours).returncode)"""
 INTO_FULL = '"$0" "$@" >/dev/full'
-# Faults of images as docs/IMAGES.md shows them: the cause, the command that loads, and what makes the image.
+# Faults of images in docs/IMAGES.md: the cause, the command that loads, and what makes the image.
 IMAGES = (
     ("E1 short", "LoadELF", "head -c 51 demo/poll/poll.elf"),
     ("E2 not elf", "LoadELF", "cat demo/clock/clock.hex"),

@@ -253,7 +253,7 @@ class Packages(unittest.TestCase):
                 refused.write_text("foo\n", encoding="utf-8")
                 ran = as_another([str(place.lab), "run", str(refused)], place.folder)
                 self.assertEqual(ran.returncode, 3, ran.stdout)
-                self.assertIn(f"\nlab:   {refused}:1: foo\nlab: docs/SCRIPTS.md: the first words are no c", ran.stdout)
+                self.assertIn(f"\nlab:   {refused}:1: foo\nlab: docs/SCRIPTS.md: the first words are not a", ran.stdout)
 
     def test_each_says_what_it_is(self) -> None:
         logic = package.LOGIC.search(self.program)

@@ -1,6 +1,8 @@
 """What a suite bears: files that are no plain ones, damaged ones, signals, full disks, and names that look like
 something else."""
+import ctypes
 import fcntl
+import functools
 import os
 import shutil
 import signal
@@ -70,15 +72,22 @@ class Files(Bearing):
         self.errors({"a.resc": "a.resc cannot be read: it has more than 16777216 bytes", "b.resc": cause})
 
 
+def send_beside(place: int, process: int, number: int) -> None:
+    """Sends a signal to one of the threads of a process that are not its main thread."""
+    beside = sorted(int(it) for it in os.listdir(f"/proc/{process}/task") if int(it) != process)
+    assert len(beside) > place, "a thread beside the main one"
+    assert ctypes.CDLL(None).tgkill(process, beside[place], number) == 0
+
+
 class Signals(Bearing):
     """Signals that end a suite."""
 
-    def ends(self, number: int, is_ready: Callable[[int], bool]) -> None:
+    def ends(self, number: int, is_ready: Callable[[int], bool], send: Callable[[int, int], None] = os.kill) -> None:
         """A suite that waits, which is known of its process, is ended by a signal, and leaves nothing behind."""
         with self.begin(".") as suite:
             wait_for(lambda: is_ready(suite.pid))
             time.sleep(0.2)
-            suite.send_signal(number)
+            send(suite.pid, number)
             try:
                 status = suite.wait(240)
             finally:
@@ -90,6 +99,13 @@ class Signals(Bearing):
         for number in signal.SIGTERM, signal.SIGHUP, signal.SIGINT:
             self.write("a.resc.waits", "")
             self.ends(number, lambda _: bool(self.read("a.resc.waits")))
+            wait_for(lambda: is_ended(int(self.read("a.resc.waits"))))
+
+    def test_a_signal_that_the_main_thread_does_not_hear_ends_a_suite(self) -> None:
+        self.make("a", "1\n", "1\n")
+        for place in range(2):
+            self.write("a.resc.waits", "")
+            self.ends(signal.SIGTERM, lambda _: bool(self.read("a.resc.waits")), functools.partial(send_beside, place))
             wait_for(lambda: is_ended(int(self.read("a.resc.waits"))))
 
     def test_a_signal_ends_a_suite_that_waits_for_another_one(self) -> None:

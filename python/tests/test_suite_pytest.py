@@ -22,7 +22,7 @@ def test_lines(lab):
     assert run.lines("pong/uart") == ["pong", "pong"] and run.lines("none/uart") == []
     assert run.times("pong/uart") == [0.000155, 0.000356] and run.time_of("pong/uart", "pong") == 0.000155
     assert run.verdict == ""
-    with pytest.raises(LookupError, match="pong/uart has not printed 'ping'; lines are there of ping/uart, pong/uart"):
+    with pytest.raises(LookupError, match="pong/uart has not printed 'ping'; these have printed: ping/uart, pong/uart"):
         run.time_of("pong/uart", "ping")
 
 def test_frames(lab):

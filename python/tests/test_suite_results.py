@@ -86,7 +86,7 @@ FAILED: Dict[str, Row] = {
     "failure after a pass": ("# suite: verdict\n", PASS + FAIL, PASS + FAIL, f"a test has failed: {FAIL[:-1]}"),
     "no verdict, exact": ("# suite: exact\n", A + PASS, A, "no verdict: it hangs?"),
     "no verdict, notimes": ("# suite: notimes\n", A + PASS, A, "no verdict: it hangs?"),
-    "other times": ("", A, LATER, "the times alone differ: `# suite: notimes` leaves them out"),
+    "other times": ("", A, LATER, "only the times differ: `# suite: notimes` ignores them"),
     "uart says so": ("# suite: verdict\n", "x\n", f"[0.000100] m0/uart: {PASS[11:]}", "no verdict: it hangs?"),
 }
 ERRORS: Dict[str, Row] = {

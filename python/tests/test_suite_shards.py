@@ -115,7 +115,7 @@ class Shards(WithStandIn):
                 "other.xml",
             ): "1-3.xml and other.xml are shares of different lists of tests, or by different times",
             ("whole.xml",): "whole.xml names no shard: --shard writes it",
-            ("none.xml",): "none.xml has no results as JUnit: 0 suites, and not one",
+            ("none.xml",): "none.xml has no results as JUnit: 0 suites instead of one",
             ("entity.xml",): "entity.xml has no results as JUnit: it has a DOCTYPE",
             ("missing.xml",): "missing.xml cannot be read: No such file or directory",
             ("tests",): "tests cannot be read: it is a folder, not a plain file",

@@ -147,7 +147,7 @@ def check(folder: pathlib.Path, names: Iterable[str]) -> None:
         raise Refused(f"{folder}: it is not a folder")
     for path in (folder / name for name in names):
         if os.path.lexists(path) and not (path.is_file() and is_core(path)):
-            raise Refused(f"{path}: it is not a core of a board, and is left alone")
+            raise Refused(f"{path}: it is not a core of a board, and is not replaced")
 
 
 def write(folder: pathlib.Path, files: Dict[str, bytes]) -> None:

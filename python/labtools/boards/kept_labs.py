@@ -25,7 +25,7 @@ def read(data: bytes) -> Tuple[Dict[str, Any], snapshot.Reader]:
         raise snapshot.NoSnapshot(f"more than {LIMIT} bytes")
     held, reader = snapshot.read(data)
     if is_refused(data):
-        raise snapshot.NoSnapshot("its form is that of one, but no laboratory can be so")
+        raise snapshot.NoSnapshot("it has the form of one, but no such laboratory is possible")
     return held, reader
 
 

@@ -34,7 +34,7 @@ def steps_of(script: str, until: int = reads.DEFAULT_UNTIL) -> List[Command]:
     except OSError as fault:
         raise NoRun(f"{script}: {fault.strerror}") from fault
     except UnicodeDecodeError as fault:
-        raise NoRun(f"{script}: no text, and no snapshot of lab") from fault
+        raise NoRun(f"{script}: neither a script nor a snapshot of lab") from fault
     reading = reads.follow(script, pathlib.Path("."), until)
     if reading.refusal and reading.refusal.cause == reads.COMMANDS:
         # A copy has fewer commands, and would not be refused.
@@ -48,7 +48,7 @@ def loaded(step: Command) -> Held:
     try:
         return snapshot.read(kept_labs.bytes_of(path))[0]
     except snapshot.NoSnapshot as fault:
-        raise NoRun(f"{path}, for {step.file}:{step.number}: no snapshot of lab: {fault}") from fault
+        raise NoRun(f"{path}, for {step.file}:{step.number}: not a snapshot of lab: {fault}") from fault
 
 
 def length_of(step: Command, time: int, until: int) -> int:

@@ -58,7 +58,7 @@ class Reader:
     def flag(self, path: str) -> bool:
         at, value = self.at, self.take(1)[0]
         if value > 1:
-            raise NoSnapshot(f"{path}: {value} is no flag at {at}")
+            raise NoSnapshot(f"{path}: {value} is not a flag at {at}")
         self.tell(path, at, bool(value))
         return bool(value)
 
@@ -89,7 +89,7 @@ class Reader:
         self.counts.append(at)
         count = int(self.number(8)(f"{path}.count"))
         if most is not None and count > most:
-            raise NoSnapshot(f"{path}: there can be {most}, and not {count} at {at}")
+            raise NoSnapshot(f"{path}: at most {most} are possible, not {count}, at {at}")
         if count > len(self.data) - self.at:
             raise NoSnapshot(f"{path}: more items than bytes, {count} at {at}")
         return count
@@ -259,5 +259,5 @@ def read(data: bytes) -> Tuple[Dict[str, Any], Reader]:
         raise NoSnapshot("does not begin with LABSNAP1")
     held = laboratory(reader)("laboratory")
     if reader.at != len(data):
-        raise NoSnapshot(f"goes on after its end at {reader.at}")
+        raise NoSnapshot(f"continues after its end at {reader.at}")
     return held, reader

@@ -10,6 +10,7 @@ import pathlib
 import secrets
 import subprocess
 import tempfile
+import threading
 from typing import Any, Optional, Sequence
 
 # The folder takes another name first, under which nobody puts anything into it.
@@ -28,6 +29,7 @@ class Room:
     def __init__(self, prefix: str, within: Optional[pathlib.Path] = None) -> None:
         self.path = (within or pathlib.Path(tempfile.gettempdir())) / f"{prefix}{secrets.token_hex(8)}"
         end, self.end = os.pipe()
+        self.closing = threading.RLock()
         self.keeper = subprocess.Popen(
             ["sh", "-c", KEEPER, "sh", str(self.path)],
             stdin=end,
@@ -49,12 +51,13 @@ class Room:
         return subprocess.Popen(words, preexec_fn=lambda: os.setpgid(0, group), **how)
 
     def close(self) -> None:
-        """Removes the folder, and ends what was started beside it. A signal's handler may call it while it runs."""
-        end, self.end = self.end, -1
-        if end >= 0:
-            os.close(end)
-        with contextlib.suppress(ChildProcessError):
-            os.waitpid(self.keeper.pid, 0)
+        """Removes the folder, and ends what was started beside it. Several threads may call it."""
+        with self.closing:
+            end, self.end = self.end, -1
+            if end >= 0:
+                os.close(end)
+            with contextlib.suppress(ChildProcessError):
+                os.waitpid(self.keeper.pid, 0)
 
     def __enter__(self) -> "Room":
         return self

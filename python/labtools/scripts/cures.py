@@ -34,8 +34,8 @@ OF_RENODE = Table("docs/RENODE.md", "| In Renode | Refused by | Here |", 1, 0, 2
 OF_SYMPTOMS = Table("docs/TROUBLESHOOTING.md", "| Symptom | Cause | Check |", 0, 1, 2)
 OF_CODES = (
     Table("docs/SCRIPTS.md", "| Cause | It comes where | Cure |", 0, 1, 2),
-    Table("docs/PLATFORMS.md", "| Cause | Example | Why | What to do |", 0, 2, 3),
-    Table("docs/IMAGES.md", "| Code | Cause | What to do | Example |", 0, 1, 2),
+    Table("docs/PLATFORMS.md", "| Cause | Why | What to do |", 0, 1, 2),
+    Table("docs/IMAGES.md", "| Code | Cause | What to do |", 0, 1, 2),
 )
 
 

@@ -14,7 +14,7 @@ from labtools.scripts.cures import fits
 from labtools.scripts.reads import Scene
 
 SCRIPTS = TOP / "docs/SCRIPTS.md"
-COMMANDS = "| Command | Does | Example |"
+COMMANDS = "| Command | Does |"
 NEAR = 0.72
 OTHER_QUOTES = "“”„‘’'«»"
 NAME = re.compile(r"[A-Za-z_.$][\w.$]*")

@@ -111,7 +111,7 @@ class Run:
         found = next((it.time for it in self.of(device) if it.text == text), None)
         if found is None:
             raise LookupError(
-                f"{device} has not printed {text!r}; lines are there of {', '.join(self.devices) or 'none'}"
+                f"{device} has not printed {text!r}; these have printed: {', '.join(self.devices) or 'none'}"
             )
         return found
 

@@ -6,6 +6,7 @@ import pathlib
 import resource
 import signal
 import tempfile
+import threading
 from typing import Callable, List, NoReturn, Optional, Sequence, Union
 
 from labtools.common import escapes, plain_files, program, rooms
@@ -133,19 +134,25 @@ class Session:
 
 def end_by_signals(runs: lab_runs.Runs, room: rooms.Room) -> None:
     """From now on a signal ends all runs and this program, whatever its threads wait for. A log that is being kept is
-    kept before. A signal that was ignored as this program was started, as by nohup, stays so."""
+    kept before. A signal that was ignored as this program was started, as by nohup, stays so.
 
-    def end(*_: object) -> NoReturn:
-        for number in SIGNALS:
-            signal.signal(number, signal.SIG_IGN)
+    A thread of its own waits for signals. A handler would run in the main thread, and only between two steps of
+    Python: a signal that comes just before the main thread takes a lock is not heard until that lock is free."""
+    told, telling = os.pipe()
+    os.set_blocking(telling, False)
+
+    def end() -> NoReturn:
+        os.read(told, 1)
         runs.end_all()
         plain_files.REPLACING.acquire()
         room.close()
         os._exit(130)
 
+    threading.Thread(target=end, daemon=True).start()
+    signal.set_wakeup_fd(telling, warn_on_full_buffer=False)
     for number in SIGNALS:
         if signal.getsignal(number) is not signal.SIG_IGN:
-            signal.signal(number, end)
+            signal.signal(number, lambda *_: None)
 
 
 def run(given: argparse.Namespace, work: Callable[[Session], int]) -> int:

@@ -116,7 +116,7 @@ def suite_of(path: pathlib.Path) -> ElementTree.Element:
         raise Undone(f"{path} has no results as JUnit: {fault}") from fault
     suites = [root] if root.tag == "testsuite" else root.findall("testsuite")
     if len(suites) != 1:
-        raise Undone(f"{path} has no results as JUnit: {len(suites)} suites, and not one")
+        raise Undone(f"{path} has no results as JUnit: {len(suites)} suites instead of one")
     return suites[0]
 
 
