@@ -18,6 +18,8 @@ from labtools.common.program import TOP
 
 NAME = re.compile(r"`((?:\w+::)?\w+)`")
 DECISIONS = "docs/decisions"
+CHANGES = TOP / "CHANGELOG.md"
+MOST_WORDS = 54_000
 # What gives no answer, and nothing is promised of it.
 NO_ANSWER = {"Gate::enter"}
 CRATES = crates_below(TOP)
@@ -197,6 +199,13 @@ def lemmas_cited_above() -> Dict[str, Set[str]]:
             if crate in CRATES and crate != own:
                 cited[crate].add(file)
     return cited
+
+
+class Length(unittest.TestCase):
+    def test_the_documents_together_stay_short(self) -> None:
+        """All pages but the list of changes, which only grows. Whoever adds to one shortens it, or another one."""
+        words = sum(len(path.read_text(encoding="utf-8").split()) for path in all_documents() if path != CHANGES)
+        self.assertLessEqual(words, MOST_WORDS)
 
 
 class Guide(unittest.TestCase):
