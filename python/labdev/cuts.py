@@ -304,6 +304,8 @@ def try_largest(room: Room) -> Iterator[str]:
     larger = filled(pages, left + 23)
     if room.run(larger) != (f"error: s.resc:{len(larger)}: S19 size\n".encode(), 3):
         yield "a snapshot of more than 64 MiB is kept"
+    if room.read("x") != room.read("y"):
+        yield "a refused Save changes the file of its name"
 
 
 def all_wrong(program: str) -> Iterator[str]:

@@ -205,6 +205,9 @@ def form_of_image(sight: Sight) -> List[str]:
 
 
 def large(sight: Sight) -> List[str]:
+    """The size of the file that is read. What a `Save` would replace has not been too large."""
+    if sight.words[0] == "Save":
+        return []
     paths = [path for path in map(resc.path_of, sight.words) if path and os.path.isfile(path)]
     return [f"{path} has {os.path.getsize(path):,} bytes" for path in paths][:1]
 
