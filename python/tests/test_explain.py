@@ -255,10 +255,12 @@ class Said(Explained):
         """A check writes none, and takes the line. The memory is full, so that the snapshot has all of it."""
         loads = "".join(f"sysbus LoadBinary @full {0x80000000 + part * 2**24}\n" for part in range(4))
         self.put({"full": b"x" * 2**24, "board.repl": BOARD.replace("0x10000 }", "0x4000000 }")})
-        self.put({"s.resc": f"{MAKE}{loads}Save @kept\n"})
+        self.put({"s.resc": f"{MAKE}{loads}Save @kept\n", "kept": b"old"})
         said = self.explained(3, "run", "s.resc")
         self.assertEqual(said[0], "lab:   s.resc:8: Save @kept")
         self.assertIn("A snapshot has the pages that the firmware has used", said[1])
+        self.assertEqual([line for line in said if "kept has" in line], [])
+        self.assertEqual((self.room / "kept").read_bytes(), b"old")
 
 
 class Table(Explained):
