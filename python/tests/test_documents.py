@@ -201,6 +201,21 @@ def lemmas_cited_above() -> Dict[str, Set[str]]:
     return cited
 
 
+def numbers_of(cell: str) -> List[int]:
+    """Returns the numbers of a cell: `0x342, 0x343`, or `0xF11 to 0xF13`."""
+    numbers = [int(it, 16) for it in re.findall(r"0x[0-9A-F]+", cell)]
+    return list(range(numbers[0], numbers[1] + 1)) if " to " in cell else numbers
+
+
+class Registers(unittest.TestCase):
+    def test_the_csrs_of_the_page_are_those_of_the_definition(self) -> None:
+        rows = re.findall(r'read_(?:write|only) (0x[0-9A-F]+) "(\w+)"', text_of("crates/rv_hart/specs/Csr.antt"))
+        told: Dict[int, str] = {}
+        for csr, name, *_ in rows_after(text_of("docs/DEVICES.md"), "| CSR | Name | After a reset | Read and write |"):
+            told.update(zip(numbers_of(csr), names_in(name)))
+        self.assertEqual(told, {int(number, 16): name for number, name in rows})
+
+
 class Length(unittest.TestCase):
     def test_the_documents_together_stay_short(self) -> None:
         """All pages but the list of changes, which only grows. Whoever adds to one shortens it, or another one."""
