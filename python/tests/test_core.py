@@ -349,7 +349,7 @@ class Faults(Cores):
         ):
             self.write("bad", kept.replace(old, new))
             env = {**os.environ, "LAB": "/none/lab"}
-            self.refuses(f"bad: not a snapshot of lab: {said}", "bad", "cores", env=env)
+            self.refuses(f"bad: no snapshot of lab: {said}", "bad", "cores", env=env)
         (self.room / "bad").unlink()
         self.assertEqual(self.held(), before)
 
@@ -393,7 +393,7 @@ class Faults(Cores):
                 self.refuses(line, *words.split())
         status, _, told = self.call("cut", "cores")
         self.assertEqual(status, 1)
-        self.assertIn("tools/core: cut: not a snapshot of lab: ends within a value", told)
+        self.assertIn("tools/core: cut: no snapshot of lab: ends within a value", told)
         self.assertFalse((self.room / "cores").exists())
         self.assertEqual(self.read("file"), "mine")
 

@@ -1,7 +1,7 @@
 """Tries tools/snapshot and tools/where on damaged snapshots and ELF files: those of data/where, with some bytes or a
 count changed, or cut off: DAMAGED snapshots, 150 if that is not set, and half as many ELF files, from the seed SEED.
 
-A snapshot that `lab check` refuses is reported as `not a snapshot of lab` in one line, and each other one is shown. A
+A snapshot that `lab check` refuses is reported as `no snapshot of lab` in one line, and each other one is shown. A
 damaged ELF file is a warning of a report. A stand-in shows what becomes of faults of pyelftools. The program is that of
 LAB, or else the one that ./lab runs. A damaged file that is not reported so is kept in a folder, which the test names.
 """
@@ -112,7 +112,7 @@ def is_refused(name: str) -> bool:
 def is_told(said: Said, tool: str, data: bytes) -> bool:
     """Whether a line says that a file is no snapshot, and nothing else is printed. tools/where takes for a script what
     does not begin as one."""
-    has_words = said.told.startswith(f"tools/{tool}: x: not a snapshot of lab: ")
+    has_words = said.told.startswith(f"tools/{tool}: x: no snapshot of lab: ")
     is_script = tool == "where" and not data.startswith(b"LABSNAP1")
     return (has_words or is_script) and (said.status, said.printed, said.told.count("\n")) == (1, "", 1)
 

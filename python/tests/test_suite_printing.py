@@ -19,7 +19,7 @@ class Printing(Bearing):
         self.write("stand_in", FLOOD)
 
     def test_a_test_that_prints_too_much_is_ended(self) -> None:
-        for line, cause in (("[0.000001] m0/uart: a", ""), (POLL, ": it polls an unmapped address?")):
+        for line, cause in (("[0.000001] m0/uart: a", ""), (POLL, ": it polls where nothing stands?")):
             self.flood(line)
             failed = f"failed  T s  a.resc: printed more than 100000 bytes{cause}\n0 passed, 1 failed\n"
             self.expect(["--most", "100000", "."], 1, failed)
@@ -32,7 +32,7 @@ class Printing(Bearing):
         line = "failed  T s  a.resc: printed more than 3000 bytes"
         self.expect(["--most", "3000", "."], 1, f"{line}\n0 passed, 1 failed\n")
         self.make("a", "1\n", "".join(lines[:2]) * 50)
-        self.expect(["--most", "3000", "."], 1, f"{line}: it polls an unmapped address?\n0 passed, 1 failed\n")
+        self.expect(["--most", "3000", "."], 1, f"{line}: it polls where nothing stands?\n0 passed, 1 failed\n")
 
     def test_a_test_may_print_so_many_bytes(self) -> None:
         self.make("a", "123456789\n", "123456789\n")

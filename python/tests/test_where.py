@@ -355,7 +355,7 @@ class Faults(InRoom):
         told = self.refused("lacks.resc")
         self.assertEqual(told, "tools/where: lacks.resc: lab ended with 4: none.resc is not there, for lacks.resc:1\n")
         (self.room / "cut").write_bytes(b"LABSNAP1 and no more")
-        self.assertIn("tools/where: cut: not a snapshot of lab: ends within a value", self.refused("cut"))
+        self.assertIn("tools/where: cut: no snapshot of lab: ends within a value", self.refused("cut"))
 
     def test_words_that_are_wrong(self) -> None:
         for wrong in "ask.resc asker", "ask.resc --at soon", "":
@@ -444,7 +444,7 @@ class Snapshots(InRoom):
         for tool in "snapshot", "where":
             status, text, told = self.run_tool(tool, "twice")
             self.assertEqual((status, text), (1, ""))
-            wanted = "not a snapshot of lab: it has the form of one, but no such laboratory is possible"
+            wanted = "no snapshot of lab: it has the form of one, but no such laboratory is possible"
             self.assertEqual(told, f"tools/{tool}: twice: {wanted}\n")
 
     def test_a_wrong_count_is_told_at_once(self) -> None:
@@ -457,11 +457,11 @@ class Snapshots(InRoom):
             status, text, told = self.run_tool(tool, "boards", LAB="/none/lab")
             self.assertLess(resource.getrusage(resource.RUSAGE_CHILDREN).ru_utime - before, 1)
             line = f"laboratory.boards: at most 16 are possible, not {count}, at 24"
-            self.assertEqual((status, text, told), (1, "", f"tools/{tool}: boards: not a snapshot of lab: {line}\n"))
+            self.assertEqual((status, text, told), (1, "", f"tools/{tool}: boards: no snapshot of lab: {line}\n"))
 
     def test_a_file_that_never_ends_is_told(self) -> None:
         status, text, told = self.run_tool("snapshot", "/dev/zero")
-        line = "tools/snapshot: /dev/zero: not a snapshot of lab: more than 67108864 bytes\n"
+        line = "tools/snapshot: /dev/zero: no snapshot of lab: more than 67108864 bytes\n"
         self.assertEqual((status, text, told), (1, "", line))
         self.assertEqual(self.refused("/dev/zero"), "tools/where: /dev/zero: /dev/zero: File too large\n")
 

@@ -46,4 +46,4 @@ def faults_told(file: str) -> Iterator[None]:
     except run_until.NoRun as fault:
         program.end_wrong(shown(f"{file}: {fault}"), 1)
     except snapshot.NoSnapshot as fault:
-        program.end_wrong(shown(f"{file}: not a snapshot of lab: {fault}"), 1)
+        program.end_wrong(shown(f"{file}: no snapshot of lab: {fault}"), 1)

@@ -48,7 +48,7 @@ def loaded(step: Command) -> Held:
     try:
         return snapshot.read(kept_labs.bytes_of(path))[0]
     except snapshot.NoSnapshot as fault:
-        raise NoRun(f"{path}, for {step.file}:{step.number}: not a snapshot of lab: {fault}") from fault
+        raise NoRun(f"{path}, for {step.file}:{step.number}: no snapshot of lab: {fault}") from fault
 
 
 def length_of(step: Command, time: int, until: int) -> int:

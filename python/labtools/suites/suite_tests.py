@@ -99,7 +99,7 @@ def fault_of(ran: lab_runs.Ran, script: str, runs: lab_runs.Runs, seconds: Optio
     if ran.ended_by == lab_runs.TIME:
         return Finding(FAILED, "timeout", f"not finished after {runs.seconds if seconds is None else seconds:g} s")
     if ran.ended_by == lab_runs.SIZE:
-        polls = ": it polls an unmapped address?" if kept_logs.polls_nothing(ran.log) else ""
+        polls = ": it polls where nothing stands?" if kept_logs.polls_nothing(ran.log) else ""
         return Finding(FAILED, "size", f"printed more than {runs.most} bytes{polls}")
     return None if ran.status == 0 else Finding(ERROR, "lab", f"lab ended with {ran.status}: {why(ran, script, runs)}")
 
