@@ -173,3 +173,28 @@ pub slot-halted :
     slot v t ≡ quiet (record v { next = number_after (length v.cores) v.next })
 unfolding slot hart_slot
 slot-halted v t halted = rw (halted, set-get_or v.cores v.next initial) refl
+
+-- a slot of a processor that is not halted
+pub slot-runs :
+    (v : HartView) (t : ℕ) → v.core.halted ≡ false →
+    hart_slot v t ≡ running (sampling v) t (lines_of (sampled v.space) v.hart t)
+unfolding hart_slot
+slot-runs v t halted = rw halted refl
+
+-- a slot of a processor that is not halted and does not wait, where to sample changes nothing
+pub slot-awake :
+    (v : HartView) (t : ℕ) (lines : Lines) → v.core.halted ≡ false → v.core.waiting ≡ false →
+    sampled v.space ≡ v.space → lines ≡ lines_of v.space v.hart t → hart_slot v t ≡ awake v t lines
+unfolding hart_slot
+slot-awake v t lines halted waiting settled known = rw (halted, waiting, settled, known) refl
+
+-- an effect leaves the microsecond of the bus
+pub at-effect : (w : HartBus) (effect : Effect) → (bus_after loaded stored w effect).at ≡ w.at
+at-effect w effect =
+    by_effect (λ f. (f w.posts w.entries).at ≡ w.at) w effect
+    (record {
+      nothing = λ s kept. refl;
+      entry = λ s note kept told. refl;
+      post = λ s dev payload kept sender. refl;
+      both = λ s dev payload note kept sender told. refl;
+    })

@@ -1,6 +1,6 @@
 -- What a slot does to the reservations of the processors.
 use Rattle.std.proofs.Common.{◌≡◌, ◌∙◌, ℕ, ◌%◌, ◌==◌, Bool, true, false, List, All, length, map, refl, sym, ap, inl}
-use Rattle.std.proofs.Common.{inr}
+use Rattle.std.proofs.Common.{inr, subst}
 use Rattle.std.specs.Prelude.{Option, None, Some, if◌then◌else◌, slice_set}
 use Rattle.std.specs.Option.{option_and_then, option_map_or}
 use Rattle.std.proofs.lemmas.Bool.{cases_lt, eqb-true}
@@ -244,3 +244,15 @@ reserved_after hart core core' watch watch' w w' t done own all =
     rw (ap {A = SlotState} (λ s. s.view.watch) done)
     (kept_slot (All (IsReservation w.space.plan)) h t
     (reservations_kept (bus_of (sampling h) t) core.letters hart own) all)
+
+-- and after one slot more of a board whose plan is known
+pub reserved_more :
+    (core core' : Core) (watch watch' : List (Option ℕ)) (w w' : HartBus) (plan : BoardPlan) (t : ℕ) →
+    w.space.plan ≡ plan → core.letters ≡ plan.letters →
+    slot_state 0 core' watch' w'
+    ≡ behind (slot_state 0 core watch w) (hart_slot (slot_state 0 core watch w).view t) →
+    All (IsReservation plan) watch → All (IsReservation plan) watch'
+reserved_more core core' watch watch' w w' plan t same own done =
+    subst
+    (λ (p : BoardPlan). core.letters ≡ p.letters → All (IsReservation p) watch → All (IsReservation p) watch') same
+    (reserved_after 0 core core' watch watch' w w' t done) own

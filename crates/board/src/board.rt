@@ -166,9 +166,9 @@ impl<D: Device> Board<D> {
             self.skip(n);
             return Turn::Used(n);
         }
-        // loops of their own, so that a board of one processor without atomic instructions asks in no slot whose turn
-        // is next and what is reserved, one without timer, interrupt controller and wires asks for no lines, and none
-        // asks whether there are compressed instructions
+        // loops of their own, so that a board of one processor asks in no slot whose turn is next and what is reserved,
+        // one without timer, interrupt controller and wires asks for no lines, and none asks whether there are
+        // compressed instructions
         let Features {
             shared,
             wired,

@@ -1,100 +1,263 @@
 //! One instruction of one of a board's processors.
-ghost use Rattle.std.specs.Prelude.{◌≡◌, ◌<◌, length, true, false, OnOk, OnErr};
+ghost use Rattle.std.specs.Prelude.{◌≡◌, ◌<◌, ◌%◌, length, Some, true, false, IfOk, OnOk, OnErr};
+ghost use Rattle.rv_atomic.specs.Laws.{EndsNone};
 ghost use Rattle.rv_atomic.specs.SharedEffect.{IsSharable};
-ghost use Rattle.rv_exec.specs.Effect.{bus_after, core_after, effect};
-ghost use Rattle.rv_exec.specs.Laws.{IsSameHart};
-ghost use Rattle.board.specs.Fetch.{fetched_by, shared_by};
-ghost use Rattle.board.specs.Inner.Seat.{seat, shared_of_word, HasDone, IsSeat};
-ghost use Rattle.board.specs.HartBus.{answer, loaded, stored};
+ghost use Rattle.rv_atomic.specs.declared.shared.Shared.TheVariants.{Plain};
+ghost use Rattle.rv_exec.specs.declared.fetched.Fetched.{Fetched as What};
+ghost use Rattle.rv_exec.specs.declared.fetched.Fetched.TheVariants.{Bad};
+ghost use Rattle.board.specs.Fetch.{of_half, shared_by};
+ghost use Rattle.board.specs.Inner.Seat.{seat, shared_of_word, HasDone, IsAwake, IsSeat};
+ghost use Rattle.board_space.specs.Words.{half_in};
 
-use crate::halves::{begun_by, of_half};
+use crate::halves::of_half;
 use crate::hart_bus::HartBus;
-use crate::slot::Features;
+use crate::slot::{Features, is_asleep};
 use dev_core::Device;
 use lab_num::NoMemory;
 use rv_atomic::{Shared, Watch, decode_atomic, laws, step_shared};
-use rv_exec::{Fetched, perform};
+use rv_decode::decode;
+use rv_exec::{Fetched, perform_short, take_meant};
 use rv_hart::{Hart, Lines};
+use rvc_decode::expand;
 
-/// Does the instruction at the processor's pc, or enters the trap of its exception.
+/// A processor that shares its memory with no other ends no reservation by what is no atomic instruction.
+fn plain_ends_none(watch: &Watch)
+    requires { length watch.now ≡ 1 }
+    ensures { (what : What) → EndsNone watch.now what }
+{
+    laws::alone_as_performed();
+}
+
+/// Does the instruction at the pc of a board's only processor, or enters the trap of its exception. Where the answer is
+/// false, a processor that was awake is so after it.
 #[inline(always)]
-pub fn instruction<const COPY: u8, D: Device>(
+pub fn instruction_alone<const COPY: u8, D: Device>(
     hart: &mut Hart,
     number: u8,
     watch: &mut Watch,
     bus: &mut HartBus<D>,
     features: Features,
     lines: Lines,
-) -> Result<(), NoMemory>
+) -> Result<bool, NoMemory>
+    requires alone { features.shared ≡ false }
     requires seat { IsSeat features (seat number hart.old watch.old bus.old) }
     ensures ok { OnOk result (HasDone (shared_by hart.old bus.old) lines (seat number hart.old watch.old bus.old)
         (seat number hart.new watch.new bus.new)) }
+    ensures awake { IfOk result (λ waits. waits ≡ false → IsAwake hart.old → IsAwake hart.new) }
     ensures err { OnErr result (seat number hart.new watch.new bus.new ≡ seat number hart.old watch.old bus.old) }
 {
-    if features.shared {
-        return by_sharing(hart, number, watch, bus, lines);
-    }
-    laws::alone_as_performed();
+    plain_ends_none(watch);
     if features.halves {
-        by_halves::<COPY, D>(hart, bus, lines)
+        by_halves::<COPY, D>(hart, number, watch, bus, lines)
     } else {
-        by_words::<COPY, D>(hart, bus, lines)
+        by_words::<COPY, D>(hart, number, watch, bus, lines)
     }
 }
 
-/// The same of a processor alone, without atomic and without compressed instructions.
+/// The same of a processor without compressed instructions.
 #[inline(always)]
 fn by_words<const COPY: u8, D: Device>(
     hart: &mut Hart,
+    number: u8,
+    watch: &mut Watch,
     bus: &mut HartBus<D>,
     lines: Lines,
-) -> Result<(), NoMemory>
-    requires { hart.old.letters.c ≡ false }
-    ensures core { let effect = effect hart.old (fetched_by hart.old bus.old) lines in
-        OnOk result (hart.new ≡ core_after answer bus.old effect) }
-    ensures bus { let effect = effect hart.old (fetched_by hart.old bus.old) lines in
-        OnOk result (bus.new ≡ bus_after loaded stored bus.old effect) }
-    ensures same { OnOk result (IsSameHart hart.old hart.new) }
-    ensures core_err { OnErr result (hart.new ≡ hart.old) }
-    ensures bus_err { OnErr result (bus.new ≡ bus.old) }
+) -> Result<bool, NoMemory>
+    requires letters { hart.old.letters.c ≡ false }
+    requires number { number < length watch.old }
+    requires ends { (what : What) → EndsNone watch.old what }
+    ensures ok { OnOk result (HasDone (shared_by hart.old bus.old) lines (seat number hart.old watch.old bus.old)
+        (seat number hart.new watch.new bus.new)) }
+    ensures awake { IfOk result (λ waits. waits ≡ false → IsAwake hart.old → IsAwake hart.new) }
+    ensures err { OnErr result (seat number hart.new watch.new bus.new ≡ seat number hart.old watch.old bus.old) }
 {
     let at = hart.pc();
-    let Some(word) = bus.space.fetch_aligned(at) else {
-        return perform(hart, Fetched::Fault(at), bus, lines);
-    };
-    perform(hart, Fetched::of_word(word), bus, lines)
-}
-
-/// The same of a processor alone, without atomic instructions and with compressed ones. Each size
-/// has a copy of `perform` of its own, so that no size is asked for in it.
-#[inline(always)]
-fn by_halves<const COPY: u8, D: Device>(
-    hart: &mut Hart,
-    bus: &mut HartBus<D>,
-    lines: Lines,
-) -> Result<(), NoMemory>
-    requires { hart.old.letters.c ≡ true }
-    ensures core { let effect = effect hart.old (fetched_by hart.old bus.old) lines in
-        OnOk result (hart.new ≡ core_after answer bus.old effect) }
-    ensures bus { let effect = effect hart.old (fetched_by hart.old bus.old) lines in
-        OnOk result (bus.new ≡ bus_after loaded stored bus.old effect) }
-    ensures same { OnOk result (IsSameHart hart.old hart.new) }
-    ensures core_err { OnErr result (hart.new ≡ hart.old) }
-    ensures bus_err { OnErr result (bus.new ≡ bus.old) }
-{
-    let at = hart.pc();
-    let Some(half) = bus.space.half(at) else {
-        return perform(hart, Fetched::Fault(at), bus, lines);
-    };
-    if half % 4 == 3 {
-        let what = begun_by(&mut bus.space, half, at);
-        perform(hart, what, bus, lines)
-    } else {
-        perform(hart, of_half(half), bus, lines)
+    match bus.space.fetch_aligned(at) {
+        Some(word) => by_word(hart, number, watch, word, bus, lines),
+        None => by_any(hart, number, watch, bus, lines),
     }
 }
 
-/// The same of a processor that may share words of memory, whatever it does. It is no part of the loops of a turn.
+/// The same of a processor with compressed instructions.
+#[inline(always)]
+fn by_halves<const COPY: u8, D: Device>(
+    hart: &mut Hart,
+    number: u8,
+    watch: &mut Watch,
+    bus: &mut HartBus<D>,
+    lines: Lines,
+) -> Result<bool, NoMemory>
+    requires letters { hart.old.letters.c ≡ true }
+    requires number { number < length watch.old }
+    requires ends { (what : What) → EndsNone watch.old what }
+    ensures ok { OnOk result (HasDone (shared_by hart.old bus.old) lines (seat number hart.old watch.old bus.old)
+        (seat number hart.new watch.new bus.new)) }
+    ensures awake { IfOk result (λ waits. waits ≡ false → IsAwake hart.old → IsAwake hart.new) }
+    ensures err { OnErr result (seat number hart.new watch.new bus.new ≡ seat number hart.old watch.old bus.old) }
+{
+    let at = hart.pc();
+    let Some(half) = bus.space.half(at) else {
+        return by_any(hart, number, watch, bus, lines);
+    };
+    if half % 4 != 3 {
+        return by_half(hart, number, watch, half, bus, lines);
+    }
+    by_begun(hart, number, watch, half, bus, lines)
+}
+
+/// Does a word. Only one that means no other instruction is asked for being an atomic one.
+#[inline(always)]
+fn by_word<D: Device>(
+    hart: &mut Hart,
+    number: u8,
+    watch: &mut Watch,
+    word: u32,
+    bus: &mut HartBus<D>,
+    lines: Lines,
+) -> Result<bool, NoMemory>
+    requires number { number < length watch.old }
+    requires ends { (what : What) → EndsNone watch.old what }
+    ensures ok { let what = shared_of_word hart.old.letters word in
+        OnOk result (HasDone what lines (seat number hart.old watch.old bus.old)
+        (seat number hart.new watch.new bus.new)) }
+    ensures awake { IfOk result (λ waits. waits ≡ false → IsAwake hart.old → IsAwake hart.new) }
+    ensures err { OnErr result (seat number hart.new watch.new bus.new ≡ seat number hart.old watch.old bus.old) }
+{
+    laws::atomic_words_mean_no_other();
+    rv_exec::laws::switches_stay();
+    match decode(word) {
+        Some(i) => take_meant(hart, &i, word, bus, lines),
+        None => by_other_word(hart, number, watch, word, bus, lines),
+    }
+}
+
+/// The same of a word that is an atomic instruction or none.
+#[cold]
+#[inline(never)]
+fn by_other_word<D: Device>(
+    hart: &mut Hart,
+    number: u8,
+    watch: &mut Watch,
+    word: u32,
+    bus: &mut HartBus<D>,
+    lines: Lines,
+) -> Result<bool, NoMemory>
+    requires { number < length watch.old }
+    ensures ok { let what = shared_of_word hart.old.letters word in
+        OnOk result (HasDone what lines (seat number hart.old watch.old bus.old)
+        (seat number hart.new watch.new bus.new)) }
+    ensures awake { IfOk result (λ waits. waits ≡ false → IsAwake hart.old → IsAwake hart.new) }
+    ensures err { OnErr result (seat number hart.new watch.new bus.new ≡ seat number hart.old watch.old bus.old) }
+{
+    let what = of_word(hart, word);
+    let Ok(()) = step_shared(hart, number, watch, what, bus, lines) else {
+        return Err(NoMemory);
+    };
+    Ok(is_asleep(hart))
+}
+
+/// Does a half-word.
+#[inline(always)]
+fn by_half<D: Device>(
+    hart: &mut Hart,
+    number: u8,
+    watch: &mut Watch,
+    half: u16,
+    bus: &mut HartBus<D>,
+    lines: Lines,
+) -> Result<bool, NoMemory>
+    requires letters { hart.old.letters.c ≡ true }
+    requires number { number < length watch.old }
+    requires ends { (what : What) → EndsNone watch.old what }
+    ensures ok { let what = Plain (of_half half) in
+        OnOk result (HasDone what lines (seat number hart.old watch.old bus.old)
+        (seat number hart.new watch.new bus.new)) }
+    ensures awake { IfOk result (λ waits. waits ≡ false → IsAwake hart.old → IsAwake hart.new) }
+    ensures err { OnErr result (seat number hart.new watch.new bus.new ≡ seat number hart.old watch.old bus.old) }
+{
+    rv_exec::laws::switches_stay();
+    match expand(half) {
+        Some(i) => perform_short(hart, &i, u32::from(half), bus, lines),
+        None => by_bad_half(hart, number, watch, half, bus, lines),
+    }
+}
+
+/// The same of a half-word that is no instruction.
+#[cold]
+#[inline(never)]
+fn by_bad_half<D: Device>(
+    hart: &mut Hart,
+    number: u8,
+    watch: &mut Watch,
+    half: u16,
+    bus: &mut HartBus<D>,
+    lines: Lines,
+) -> Result<bool, NoMemory>
+    requires { number < length watch.old }
+    ensures ok { OnOk result (HasDone (Plain (Bad half)) lines (seat number hart.old watch.old bus.old)
+        (seat number hart.new watch.new bus.new)) }
+    ensures awake { IfOk result (λ waits. waits ≡ false → IsAwake hart.old → IsAwake hart.new) }
+    ensures err { OnErr result (seat number hart.new watch.new bus.new ≡ seat number hart.old watch.old bus.old) }
+{
+    let what = Shared::Plain(Fetched::Bad(u32::from(half)));
+    let Ok(()) = step_shared(hart, number, watch, what, bus, lines) else {
+        return Err(NoMemory);
+    };
+    Ok(is_asleep(hart))
+}
+
+/// Does the instruction at the pc where that begins with this half-word, which is the lower half of a word. It is a
+/// function of its own, so that the loops of half-words hold no arms of words.
+#[inline(never)]
+fn by_begun<D: Device>(
+    hart: &mut Hart,
+    number: u8,
+    watch: &mut Watch,
+    half: u16,
+    bus: &mut HartBus<D>,
+    lines: Lines,
+) -> Result<bool, NoMemory>
+    requires letters { hart.old.letters.c ≡ true }
+    requires number { number < length watch.old }
+    requires ends { (what : What) → EndsNone watch.old what }
+    requires begins { half_in bus.old.space hart.old.pc ≡ Some half }
+    requires long { half % 4 ≡ 3 }
+    ensures ok { OnOk result (HasDone (shared_by hart.old bus.old) lines (seat number hart.old watch.old bus.old)
+        (seat number hart.new watch.new bus.new)) }
+    ensures awake { IfOk result (λ waits. waits ≡ false → IsAwake hart.old → IsAwake hart.new) }
+    ensures err { OnErr result (seat number hart.new watch.new bus.new ≡ seat number hart.old watch.old bus.old) }
+{
+    let at = hart.pc();
+    match bus.space.word_begun(half, at) {
+        Some(word) => by_word(hart, number, watch, word, bus, lines),
+        None => by_any(hart, number, watch, bus, lines),
+    }
+}
+
+/// Does the instruction at the processor's pc, whatever it does.
+#[cold]
+#[inline(never)]
+fn by_any<D: Device>(
+    hart: &mut Hart,
+    number: u8,
+    watch: &mut Watch,
+    bus: &mut HartBus<D>,
+    lines: Lines,
+) -> Result<bool, NoMemory>
+    requires number { number < length watch.old }
+    ensures ok { OnOk result (HasDone (shared_by hart.old bus.old) lines (seat number hart.old watch.old bus.old)
+        (seat number hart.new watch.new bus.new)) }
+    ensures awake { IfOk result (λ waits. waits ≡ false → IsAwake hart.old → IsAwake hart.new) }
+    ensures err { OnErr result (seat number hart.new watch.new bus.new ≡ seat number hart.old watch.old bus.old) }
+{
+    let Ok(()) = by_sharing(hart, number, watch, bus, lines) else {
+        return Err(NoMemory);
+    };
+    Ok(is_asleep(hart))
+}
+
+/// Does the instruction at the pc of any processor, or enters the trap of its exception, whatever it does. It is no
+/// part of the loops of a turn.
 #[cold]
 #[inline(never)]
 pub fn by_sharing<D: Device>(

@@ -18,7 +18,8 @@ use crate::slot::{Features, enter_interrupt, sample_and_run, taken, wait};
 use dev_core::Device;
 use lab_num::{Micros, NoMemory};
 use rv_atomic::{Shared, Watch, is_store, laws, step_shared};
-use rv_exec::{Fetched, perform};
+use rv_decode::decode;
+use rv_exec::{Fetched, perform, perform_meant};
 use rv_hart::{Hart, Lines};
 
 /// One slot of the processor of this number, in this microsecond, as `slot` takes it.
@@ -45,7 +46,7 @@ pub fn shared_slot<const COPY: u8, D: Device>(
     }
     match bus.space.known_lines(features.wired, number, at) {
         Some(lines) => run::<COPY, D>(hart, number, watch, bus, features, at, lines),
-        None => Ok(sample_and_run(hart, number, watch, bus, features, at)?),
+        None => Ok(sample_and_run(hart, number, watch, bus, at)?),
     }
 }
 
@@ -69,7 +70,7 @@ fn run<const COPY: u8, D: Device>(
         ≡ slot_state number hart.old watch.old bus.old) }
 {
     if hart.waiting() {
-        return Ok(wait(hart, number, watch, bus, features, at, lines)?);
+        return Ok(wait(hart, number, watch, bus, at, lines)?);
     }
     act::<COPY, D>(hart, number, watch, bus, features, at, lines)?;
     Ok(false)
@@ -175,7 +176,7 @@ fn by_halves<const COPY: u8, D: Device>(
         return do_half::<COPY, D>(hart, number, watch, half, bus, lines);
     }
     match bus.space.word_begun(half, at) {
-        Some(word) => do_word::<COPY, D>(hart, number, watch, word, bus, lines),
+        Some(word) => do_word_of_halves::<COPY, D>(hart, number, watch, word, bus, lines),
         None => by_sharing(hart, number, watch, bus, lines),
     }
 }
@@ -191,6 +192,33 @@ fn ends_none(watch: &Watch, word: u32) -> bool
 /// Does a word. Only one that means no other instruction is asked for being an atomic one.
 #[inline(always)]
 fn do_word<const COPY: u8, D: Device>(
+    hart: &mut Hart,
+    number: u8,
+    watch: &mut Watch,
+    word: u32,
+    bus: &mut HartBus<D>,
+    lines: Lines,
+) -> Result<(), NoMemory>
+    requires number { number < length watch.old }
+    ensures ok { let what = shared_of_word hart.old.letters word in
+        OnOk result (HasDone what lines (seat number hart.old watch.old bus.old)
+        (seat number hart.new watch.new bus.new)) }
+    ensures err { OnErr result (seat number hart.new watch.new bus.new ≡ seat number hart.old watch.old bus.old) }
+{
+    if !ends_none(watch, word) {
+        return do_word_apart(hart, number, watch, word, bus, lines);
+    }
+    laws::atomic_words_mean_no_other();
+    match decode(word) {
+        Some(i) => perform_meant(hart, &i, word, bus, lines),
+        None => do_word_apart(hart, number, watch, word, bus, lines),
+    }
+}
+
+/// Does a word that was fetched by half-words. Its loop holds `perform` for half-words already, and an arm for each
+/// instruction of a word beside that would make slots slower.
+#[inline(always)]
+fn do_word_of_halves<const COPY: u8, D: Device>(
     hart: &mut Hart,
     number: u8,
     watch: &mut Watch,

@@ -7,7 +7,7 @@ ghost use Rattle.page_ram.specs.Pages as pages;
 
 use crate::maybe_box::MaybeBox;
 use crate::number::{number_at, put_number, put_part, put_zeros};
-use crate::page::{PAGE, Page, is_zero, make_present};
+use crate::page::{PAGE, PAGE_SIZE, Page, is_zero, make_present};
 use lab_num::NoMemory;
 use std::alloc::Global;
 use std::marker::Model;
@@ -70,10 +70,10 @@ impl PageRam {
         ensures value { result ≡ value_at self.now at width }
         ensures fits { result < 256 ^ width }
     {
-        let i = at as usize;
-        match self.pages[i / PAGE].load() {
+        let inside = (at % PAGE_SIZE) as usize;
+        match self.pages[(at / PAGE_SIZE) as usize].load() {
             None => 0,
-            Some(page) => number_at(page, i % PAGE, width),
+            Some(page) => number_at(page, inside, width),
         }
     }
 
@@ -136,10 +136,9 @@ impl PageRam {
         ensures err { OnErr result (self.new ≡ self.old) }
         ensures size { length self.new ≡ length self.old }
     {
-        let i = at as usize;
-        let offset = i % PAGE;
+        let offset = (at % PAGE_SIZE) as usize;
         let alloc = self.alloc;
-        let page = &mut self.pages[i / PAGE];
+        let page = &mut self.pages[(at / PAGE_SIZE) as usize];
         make_present(page, alloc)?;
         put_number(page.store(), offset, width, value);
         Ok(())

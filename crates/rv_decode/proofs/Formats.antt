@@ -10,6 +10,7 @@ use Rattle.rv_decode.specs.contracts.instruction.Format as format
 use Rattle.rv_decode.specs.contracts.instruction.Op as op
 use Rattle.rv_decode.specs.declared.instruction.Op.{Op}
 use Rattle.rv_decode.specs.declared.instruction.Format.{Format}
+use Rattle.rv_decode.specs.declared.instruction.Instr.{Instr}
 use Rattle.rv_decode.specs.SameOp.{is_same_op}
 use Rattle.rv_decode.specs.Table.{Row, row, matches, matched_row, row_of, table}
 use Rattle.rv_decode.specs.Means.{means, fields_by}
@@ -100,3 +101,22 @@ op-fields_by B o w = refl
 op-fields_by U o w = refl
 op-fields_by J o w = refl
 op-fields_by Fixed o w = refl
+
+-- an instruction that is meant has the name of the row that is found
+named :
+    (found : Option Row) (w : ℕ) (i : Instr) (op : Op) →
+    option_map (λ row. fields_by row.format row.op w) found ≡ Some i → i.op ≡ op →
+    option_map (λ row. row.op) found ≡ Some op
+named None w i op is name = cc
+named (Some r) w i op is name =
+    let same : fields_by r.format r.op w ≡ i = cc in
+    ap Some (sym (op-fields_by r.format r.op w) ∙ (ap (λ j. j.op) same ∙ name))
+
+-- the fields of a word by the name of what it means
+pub means-as :
+    (w : ℕ) (i : Instr) (op : Op) (f : Format) → means w ≡ Some i → i.op ≡ op →
+    option_map (λ row. row.format) (row_of op) ≡ Some f → fields_by f op w ≡ i
+unfolding means
+means-as w i op f is name has =
+    let whole : Some (fields_by f op w) ≡ Some i = means-some w op f (named (matched_row w) w i op is name) has ∙ is in
+    cc

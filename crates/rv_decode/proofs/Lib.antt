@@ -7,4 +7,6 @@ pub mod Rows
 pub mod FitLemmas
 pub mod OffsetLemmas
 pub mod Formats
+pub mod Shift
 mod KnownWords
+pub mod Signed

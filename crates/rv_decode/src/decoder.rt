@@ -4,6 +4,7 @@ ghost use Rattle.std.specs.Prelude.{count_by};
 ghost use Rattle.std.specs.Option.{option_map};
 ghost use Rattle.rv_decode.specs.Table.{Row, table, matches, matched_row, row_of};
 ghost use Rattle.rv_decode.specs.FixedBits.{fixed_of};
+ghost use Rattle.rv_decode.specs.declared.instruction.Format.TheVariants.{R, IUnsigned};
 ghost use Rattle.rv_decode.specs.Means.{means, fields_by, is_relative, IsInstr, IsValid};
 
 use crate::immediate::{
@@ -51,6 +52,36 @@ pub fn decode(word: u32) -> Option<Instr>
 {
     let op = decode_op(word)?;
     Some(instr_from(op.format(), op, word))
+}
+
+/// The instruction that a word means, taken from the word again by its name. Where the name is a constant, so is the
+/// format, and the compiler asks for neither.
+pub fn decode_as(i: &Instr, op: Op, word: u32) -> Instr
+    requires means { means word ≡ Some i.now }
+    requires named { i.now.op ≡ op }
+    ensures { result ≡ i.now }
+{
+    instr_from(op.format(), op, word)
+}
+
+/// The same of an instruction of format R.
+pub fn decode_registers(i: &Instr, op: Op, word: u32) -> Instr
+    requires means { means word ≡ Some i.now }
+    requires named { i.now.op ≡ op }
+    requires format { option_map (λ row. row.format) (row_of op) ≡ Some R }
+    ensures { result ≡ i.now }
+{
+    instr_from(Format::R, op, word)
+}
+
+/// The same of an instruction with an unsigned immediate of twelve bits.
+pub fn decode_unsigned(i: &Instr, op: Op, word: u32) -> Instr
+    requires means { means word ≡ Some i.now }
+    requires named { i.now.op ≡ op }
+    requires format { option_map (λ row. row.format) (row_of op) ≡ Some IUnsigned }
+    ensures { result ≡ i.now }
+{
+    instr_from(Format::IUnsigned, op, word)
 }
 
 /// No word matches two rows of the table, and no instruction has two.

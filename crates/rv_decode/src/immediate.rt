@@ -3,6 +3,12 @@
 ghost use Rattle.std.specs.Prelude.{◌≡◌, ◌+◌, ◌^◌, ◌<◌, ◌≤◌};
 ghost use Rattle.rv_decode.specs.Immediate.{field, sign_extended, imm_i, imm_s, imm_b, imm_u, imm_j};
 
+/// The bits that the sign of an immediate of 13 bits fills, and of one of 21. They are given as one number, by
+/// which the sign is multiplied, so that the sign of the word is spread over them by one shift.
+const SIGN_B: u32 = 0xFFFF_F000;
+
+const SIGN_J: u32 = 0xFFF0_0000;
+
 /// `count` bits of a word, from bit `low` on: at most 31 bits.
 pub fn bits(word: u32, low: u32, count: u32) -> u32
     requires low { low < 32 }
@@ -29,11 +35,8 @@ pub fn sign_extend(n: u32, count: u32) -> u32
     requires fits { n < 2 ^ count }
     ensures { result ≡ sign_extended count n }
 {
-    if n < 1 << (count - 1) {
-        n
-    } else {
-        n + (u32::MAX - (1 << count) + 1)
-    }
+    let above = 32 - count;
+    ((n << above).cast_signed() >> above).cast_unsigned()
 }
 
 /// The immediate of format I, bits 31 to 20.
@@ -54,13 +57,10 @@ pub fn immediate_s(word: u32) -> u32
 pub fn immediate_b(word: u32) -> u32
     ensures { result ≡ imm_b word }
 {
-    sign_extend(
-        bits(word, 31, 1) * (1 << 12)
-            + bits(word, 7, 1) * (1 << 11)
-            + bits(word, 25, 6) * (1 << 5)
-            + bits(word, 8, 4) * 2,
-        13,
-    )
+    bits(word, 31, 1) * SIGN_B
+        + bits(word, 7, 1) * (1 << 11)
+        + bits(word, 25, 6) * (1 << 5)
+        + bits(word, 8, 4) * 2
 }
 
 /// The immediate of format U, the upper 20 bits.
@@ -74,11 +74,8 @@ pub fn immediate_u(word: u32) -> u32
 pub fn immediate_j(word: u32) -> u32
     ensures { result ≡ imm_j word }
 {
-    sign_extend(
-        bits(word, 31, 1) * (1 << 20)
-            + bits(word, 12, 8) * (1 << 12)
-            + bits(word, 20, 1) * (1 << 11)
-            + bits(word, 21, 10) * 2,
-        21,
-    )
+    bits(word, 31, 1) * SIGN_J
+        + bits(word, 12, 8) * (1 << 12)
+        + bits(word, 20, 1) * (1 << 11)
+        + bits(word, 21, 10) * 2
 }

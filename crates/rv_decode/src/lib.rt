@@ -7,6 +7,6 @@ mod instruction;
 pub mod laws;
 mod opcodes;
 
-pub use decoder::decode;
+pub use decoder::{decode, decode_as, decode_registers, decode_unsigned};
 pub use immediate::{bits, register, sign_extend};
 pub use instruction::{Format, Instr, Op};

@@ -178,26 +178,39 @@ fn system_op(funct3: u32, word: u32) -> Option<Op>
     }
 }
 
-/// The name of the instruction, by the word's opcode and then its other fields.
+/// The three bits that tell the instructions of an opcode apart.
+fn funct3(word: u32) -> u32
+    ensures { result ≡ field word 12 3 }
+{
+    bits(word, 12, 3)
+}
+
+/// The upper seven bits, which tell some of them apart further.
+fn funct7(word: u32) -> u32
+    ensures { result ≡ field word 25 7 }
+{
+    bits(word, 25, 7)
+}
+
+/// The name of the instruction, by the word's opcode and then its other fields, each of which is taken from the word
+/// only where the opcode has it.
 #[tactic(auto)]
 #[inline(always)]
 pub(crate) fn op_by_fields(word: u32) -> Option<Op>
     ensures { result ≡ op_by (field word 0 7) (field word 12 3) (field word 25 7) word }
 {
-    let funct3 = bits(word, 12, 3);
-    let funct7 = bits(word, 25, 7);
     match bits(word, 0, 7) {
         0x37 => Some(Op::Lui),
         0x17 => Some(Op::Auipc),
         0x6F => Some(Op::Jal),
-        0x67 => jalr_op(funct3),
-        0x63 => branch_op(funct3),
-        0x03 => load_op(funct3),
-        0x23 => store_op(funct3),
-        0x13 => immediate_op(funct3, funct7),
-        0x33 => register_op(funct3, funct7),
-        0x0F => fence_op(funct3),
-        0x73 => system_op(funct3, word),
+        0x67 => jalr_op(funct3(word)),
+        0x63 => branch_op(funct3(word)),
+        0x03 => load_op(funct3(word)),
+        0x23 => store_op(funct3(word)),
+        0x13 => immediate_op(funct3(word), funct7(word)),
+        0x33 => register_op(funct3(word), funct7(word)),
+        0x0F => fence_op(funct3(word)),
+        0x73 => system_op(funct3(word), word),
         _ => None,
     }
 }

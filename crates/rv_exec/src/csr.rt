@@ -119,8 +119,26 @@ fn access(
 }
 
 /// Reads a CSR into a register and changes it, or enters the trap of an illegal access.
-#[inline(always)]
+#[inline(never)]
 pub fn change_csr(
+    hart: &mut Hart,
+    change: CsrChange,
+    operand: u32,
+    i: &Instr,
+    size: u8,
+    word: u32,
+    lines: Lines,
+)
+    requires fields { IsInstr i.now }
+    requires size { IsSize hart.old.letters size }
+    ensures { hart.new ≡ counted (changes change operand hart.old i.now size word lines) }
+{
+    change_csr_here(hart, change, operand, i, size, word, lines);
+}
+
+/// The same, where it is called.
+#[inline(always)]
+pub fn change_csr_here(
     hart: &mut Hart,
     change: CsrChange,
     operand: u32,

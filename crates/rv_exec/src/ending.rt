@@ -23,10 +23,7 @@ pub fn count(hart: &mut Hart, ending: Ending)
     ensures { hart.new ≡ counted_by ending hart.old }
 {
     match ending {
-        Ending::Retired(None) => {
-            hart.retire();
-            hart.tick();
-        }
+        Ending::Retired(None) => hart.count_retired(),
         Ending::Retired(Some(Counter::Mcycle)) => hart.retire(),
         Ending::Retired(Some(Counter::Minstret)) | Ending::Trapped => hart.tick(),
     }

@@ -29,7 +29,7 @@ use rv_hart::{Exception, Hart, Lines};
 /// Does an instruction. `NoMemory` comes only where the bus refuses its load or its store.
 #[tactic(auto, unfolding(crate::specs::Effect::effect_by))]
 #[inline(always)]
-fn execute<B: Bus>(
+pub fn execute<B: Bus>(
     hart: &mut Hart,
     bus: &mut B,
     i: &Instr,

@@ -11,7 +11,11 @@ mod execute;
 mod fetched;
 pub mod laws;
 mod operation;
+mod short;
+mod word;
 
 pub use bus::{Bus, low_bytes};
 pub use execute::{perform, step};
 pub use fetched::Fetched;
+pub use short::perform_short;
+pub use word::{perform_meant, take_meant};

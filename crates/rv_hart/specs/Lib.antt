@@ -3,5 +3,6 @@ pub mod Cause
 pub mod Core
 pub mod Csr
 pub mod HartState
+pub mod Inner
 pub mod Laws
 pub mod Trap

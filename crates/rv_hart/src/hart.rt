@@ -7,6 +7,7 @@ ghost use Rattle.rv_hart.specs.HartState.{IsHartState, core_of, state_of};
 mod csr;
 mod trap;
 
+use crate::counters::Counters;
 use crate::letters::Letters;
 use crate::state::{HartState, is_hart_state};
 use std::marker::Model;
@@ -14,20 +15,34 @@ use std::marker::Model;
 /// A hart of RV32IM, with the extensions of its letters, with machine mode alone.
 #[derive(Clone, Copy, PartialEq, Eq)]
 pub struct Hart {
-    state: HartState,
+    registers: [u32; 32],
+    pc: u32,
+    on: bool,
+    before: bool,
+    mie: u32,
+    mtvec: u32,
+    mscratch: u32,
+    mepc: u32,
+    mcause: u32,
+    mtval: u32,
+    counters: Counters,
+    waiting: bool,
+    halted: bool,
+    letters: Letters,
+    number: u8,
 }
 
 impl Model for Hart {
     ghost use Rattle.rv_hart.specs.Core.{Core};
-    ghost use Rattle.rv_hart.specs.HartState.{IsHartState, core_of, state_of};
+    ghost use Rattle.rv_hart.specs.Inner.Fields.{core_in, fields_of, HasSoundCore};
 
     ghost Value = { Core };
 
-    ghost view = { λ h. core_of h.state };
+    ghost view = { core_in };
 
-    ghost invariant = { λ h. IsHartState h.state };
+    ghost invariant = { HasSoundCore };
 
-    ghost inverse = { λ core. record { state = state_of core } };
+    ghost inverse = { fields_of };
 }
 
 impl Hart {
@@ -45,24 +60,21 @@ impl Hart {
         ensures { result ≡ initial_with letters number }
     {
         Hart {
-            state: HartState {
-                registers: [0; 32],
-                pc: 0,
-                on: false,
-                before: false,
-                mie: 0,
-                mtvec: 0,
-                mscratch: 0,
-                mepc: 0,
-                mcause: 0,
-                mtval: 0,
-                mcycle: 0,
-                minstret: 0,
-                waiting: false,
-                halted: false,
-                letters,
-                number,
-            },
+            registers: [0; 32],
+            pc: 0,
+            on: false,
+            before: false,
+            mie: 0,
+            mtvec: 0,
+            mscratch: 0,
+            mepc: 0,
+            mcause: 0,
+            mtval: 0,
+            counters: Counters::of(0, 0),
+            waiting: false,
+            halted: false,
+            letters,
+            number,
         }
     }
 
@@ -70,7 +82,7 @@ impl Hart {
     pub fn letters(&self) -> Letters
         ensures { result ≡ self.now.letters }
     {
-        self.state.letters
+        self.letters
     }
 
     /// The word of a register.
@@ -79,7 +91,7 @@ impl Hart {
         ensures value { result ≡ reg self.now n }
         ensures zero { n ≡ 0 → result ≡ 0 }
     {
-        self.state.registers[n as usize]
+        self.registers[n as usize]
     }
 
     /// Writes a register. Register 0 is not changed.
@@ -89,7 +101,7 @@ impl Hart {
         ensures zero { reg self.new 0 ≡ 0 }
     {
         if n != 0 {
-            self.state.registers[n as usize] = value;
+            self.registers[n as usize] = value;
         }
     }
 
@@ -99,7 +111,7 @@ impl Hart {
         ensures aligned { result % alignment self.now.letters ≡ 0 }
         ensures even { result % 2 ≡ 0 }
     {
-        self.state.pc
+        self.pc
     }
 
     /// Moves the hart to a place that is divisible by 4, or with compressed instructions by 2.
@@ -107,35 +119,35 @@ impl Hart {
         requires { pc % alignment self.old.letters ≡ 0 }
         ensures { self.new ≡ record self.old { pc = pc } }
     {
-        self.state.pc = pc;
+        self.pc = pc;
     }
 
     /// Whether the hart waits for an interrupt.
     pub fn waiting(&self) -> bool
         ensures { result ≡ self.now.waiting }
     {
-        self.state.waiting
+        self.waiting
     }
 
     /// Makes the hart wait for an interrupt, or go on.
     pub fn set_waiting(&mut self, on: bool)
         ensures { self.new ≡ record self.old { waiting = on } }
     {
-        self.state.waiting = on;
+        self.waiting = on;
     }
 
     /// Whether the hart is to do nothing.
     pub fn halted(&self) -> bool
         ensures { result ≡ self.now.halted }
     {
-        self.state.halted
+        self.halted
     }
 
     /// Halts the hart, or lets it go on.
     pub fn set_halted(&mut self, on: bool)
         ensures { self.new ≡ record self.old { halted = on } }
     {
-        self.state.halted = on;
+        self.halted = on;
     }
 
     /// Adds one to mcycle, modulo 2^64.
@@ -143,7 +155,7 @@ impl Hart {
     pub fn tick(&mut self)
         ensures { self.new ≡ ticked self.old }
     {
-        self.state.mcycle = self.state.mcycle.wrapping_add(1);
+        self.counters.raise_mcycle();
     }
 
     /// Adds one to minstret, modulo 2^64.
@@ -151,7 +163,15 @@ impl Hart {
     pub fn retire(&mut self)
         ensures { self.new ≡ retired self.old }
     {
-        self.state.minstret = self.state.minstret.wrapping_add(1);
+        self.counters.raise_minstret();
+    }
+
+    /// Adds one to both counters, modulo 2^64, as in the slot of an instruction that retires.
+    #[tactic(auto, unfolding(crate::specs::Core::ticked, crate::specs::Core::retired))]
+    pub fn count_retired(&mut self)
+        ensures { self.new ≡ ticked (retired self.old) }
+    {
+        self.counters.raise_both();
     }
 
     /// Goes on to the next instruction after one of so many bytes. The counters stay.
@@ -160,7 +180,7 @@ impl Hart {
         requires { IsSize self.old.letters size }
         ensures { self.new ≡ next self.old size }
     {
-        self.state.pc = self.state.pc.wrapping_add(u32::from(size));
+        self.pc = self.pc.wrapping_add(u32::from(size));
     }
 
     /// Writes a register, but for register 0, and goes on to the next instruction after one of so
@@ -192,7 +212,24 @@ impl Hart {
         ensures value { result ≡ state_of self.now }
         ensures valid { IsHartState result }
     {
-        self.state
+        HartState {
+            registers: self.registers,
+            pc: self.pc,
+            on: self.on,
+            before: self.before,
+            mie: self.mie,
+            mtvec: self.mtvec,
+            mscratch: self.mscratch,
+            mepc: self.mepc,
+            mcause: self.mcause,
+            mtval: self.mtval,
+            mcycle: self.counters.mcycle(),
+            minstret: self.counters.minstret(),
+            waiting: self.waiting,
+            halted: self.halted,
+            letters: self.letters,
+            number: self.number,
+        }
     }
 
     /// The hart of a state. There is none where register 0 is not 0, mie has a bit other than 3, 7
@@ -201,11 +238,26 @@ impl Hart {
     pub fn of(s: &HartState) -> Option<Hart>
         ensures { SomeIff result (IsHartState s.now) (core_of s.now) }
     {
-        if is_hart_state(s) {
-            Some(Hart { state: *s })
-        } else {
-            None
+        if !is_hart_state(s) {
+            return None;
         }
+        Some(Hart {
+            registers: s.registers,
+            pc: s.pc,
+            on: s.on,
+            before: s.before,
+            mie: s.mie,
+            mtvec: s.mtvec,
+            mscratch: s.mscratch,
+            mepc: s.mepc,
+            mcause: s.mcause,
+            mtval: s.mtval,
+            counters: Counters::of(s.mcycle, s.minstret),
+            waiting: s.waiting,
+            halted: s.halted,
+            letters: s.letters,
+            number: s.number,
+        })
     }
 }
 

@@ -3,6 +3,7 @@
 
 mod bits;
 mod cause;
+mod counters;
 mod csr;
 mod hart;
 pub mod laws;

@@ -5,3 +5,4 @@ pub mod Sole
 pub mod Encodings
 pub mod Valid
 mod KnownHalves
+pub mod Signed

@@ -5,6 +5,13 @@ ghost use Rattle.rvc_decode.specs.Immediate.{imm_addi16sp, imm_lui, imm_shift, i
 
 use rv_decode::{bits, sign_extend};
 
+/// The bits that the sign of an immediate of 6, 12 and 9 bits fills, as one number, by which the sign is multiplied.
+const SIGN_SMALL: u32 = 0xFFFF_FFE0;
+
+const SIGN_JUMP: u32 = 0xFFFF_F800;
+
+const SIGN_BRANCH: u32 = 0xFFFF_FF00;
+
 /// The immediate of C.ADDI4SPN.
 pub fn immediate_addi4spn(half: u32) -> u32
     ensures { result ≡ immediate_of imm_addi4spn half }
@@ -26,24 +33,21 @@ pub fn immediate_word(half: u32) -> u32
 pub fn immediate_small(half: u32) -> u32
     ensures { result ≡ immediate_of imm_small half }
 {
-    sign_extend(bits(half, 12, 1) * (1 << 5) + bits(half, 2, 5), 6)
+    bits(half, 12, 1) * SIGN_SMALL + bits(half, 2, 5)
 }
 
 /// The offset of C.JAL and C.J.
 pub fn immediate_jump(half: u32) -> u32
     ensures { result ≡ immediate_of imm_jump half }
 {
-    sign_extend(
-        bits(half, 12, 1) * (1 << 11)
-            + bits(half, 11, 1) * (1 << 4)
-            + bits(half, 9, 2) * (1 << 8)
-            + bits(half, 8, 1) * (1 << 10)
-            + bits(half, 7, 1) * (1 << 6)
-            + bits(half, 6, 1) * (1 << 7)
-            + bits(half, 3, 3) * (1 << 1)
-            + bits(half, 2, 1) * (1 << 5),
-        12,
-    )
+    bits(half, 12, 1) * SIGN_JUMP
+        + bits(half, 11, 1) * (1 << 4)
+        + bits(half, 9, 2) * (1 << 8)
+        + bits(half, 8, 1) * (1 << 10)
+        + bits(half, 7, 1) * (1 << 6)
+        + bits(half, 6, 1) * (1 << 7)
+        + bits(half, 3, 3) * (1 << 1)
+        + bits(half, 2, 1) * (1 << 5)
 }
 
 /// The immediate of C.ADDI16SP.
@@ -81,14 +85,11 @@ pub fn immediate_shift(half: u32) -> u32
 pub fn immediate_branch(half: u32) -> u32
     ensures { result ≡ immediate_of imm_branch half }
 {
-    sign_extend(
-        bits(half, 12, 1) * (1 << 8)
-            + bits(half, 10, 2) * (1 << 3)
-            + bits(half, 5, 2) * (1 << 6)
-            + bits(half, 3, 2) * (1 << 1)
-            + bits(half, 2, 1) * (1 << 5),
-        9,
-    )
+    bits(half, 12, 1) * SIGN_BRANCH
+        + bits(half, 10, 2) * (1 << 3)
+        + bits(half, 5, 2) * (1 << 6)
+        + bits(half, 3, 2) * (1 << 1)
+        + bits(half, 2, 1) * (1 << 5)
 }
 
 /// The offset of C.LWSP.

@@ -1,6 +1,6 @@
 -- A processor in its slot, and how the slots of a board are taken.
-use Rattle.std.specs.Prelude.{◌≡◌, ◌<◌, ℕ, ◌==◌, ◌||◌, ◌++◌, not, Bool, if◌then◌else◌, List, Option, None, length, map}
-use Rattle.std.specs.Prelude.{slice_index_or}
+use Rattle.std.specs.Prelude.{◌≡◌, ◌<◌, ℕ, ◌==◌, ◌++◌, not, Bool, if◌then◌else◌, List, Option, None, length, map}
+use Rattle.std.specs.Prelude.{false, slice_index_or}
 use Rattle.std.specs.List.{range_with_len}
 use Rattle.std.specs.Option.{option_map_or}
 use Rattle.rv_hart.specs.Core.{Core, initial}
@@ -29,9 +29,9 @@ seen hart core watch w = (slot_state hart core watch w).view
 abbrev pub behind : SlotState → SlotState → SlotState
 behind s run = record { view = run.view; posts = s.posts ++ run.posts; entries = s.entries ++ run.entries }
 
--- whether processors may share words of memory: there are several, or there are atomic instructions
+-- whether processors may share words of memory: there are several
 abbrev pub is_shared : BoardPlan → Bool
-is_shared plan = not (length plan.cpus == 1) || plan.letters.a
+is_shared plan = not (length plan.cpus == 1)
 
 abbrev pub features_of : BoardPlan → Features
 features_of plan = record { shared = is_shared plan; wired = is_wired plan; halves = plan.letters.c }
@@ -66,6 +66,16 @@ pub record IsSeat (these : Features) (s : Seat) : Type 0 where
   pub letters : s.hart.letters ≡ s.bus.space.plan.letters
   pub number : s.number < length s.watch
   pub harts : length s.watch ≡ length s.bus.space.plan.cpus
+
+-- its processor has one of the plan's numbers, and each of the plan's processors may have a reservation
+pub record HasNumber (s : Seat) : Type 0 where
+  pub number : s.number < length s.watch
+  pub harts : length s.watch ≡ length s.bus.space.plan.cpus
+
+-- a processor that is not halted and does not wait
+pub record IsAwake (core : Core) : Type 0 where
+  pub halted : core.halted ≡ false
+  pub waiting : core.waiting ≡ false
 
 -- what its processor does at its pc
 abbrev pub shared_at : Seat → Shared

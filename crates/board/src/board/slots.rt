@@ -3,7 +3,7 @@ ghost use Rattle.std.specs.Prelude.{◌≡◌, ◌+◌, ◌/◌, ◌<◌, ◌≤
 ghost use Rattle.rv_exec.specs.Laws.{IsSameHart};
 ghost use Rattle.board.specs.Inner.Ended.{HasEnded, taken_of};
 ghost use Rattle.board.specs.Inner.Holds.{state_alone};
-ghost use Rattle.board.specs.Inner.Seat.{features_of, seat, IsSeat};
+ghost use Rattle.board.specs.Inner.Seat.{features_of, seat, IsAwake, IsSeat};
 ghost use Rattle.board.specs.Slot.{slot, number_after};
 ghost use Rattle.board.specs.Stretch.{IsTurn, stretch};
 ghost use Rattle.board_space.specs.Valid.{IsReservation};
@@ -13,15 +13,15 @@ use super::{Board, SlotAt, Turn};
 use crate::hart_bus::HartBus;
 use crate::harts::all_asleep;
 use crate::sharing::shared_slot;
-use crate::slot::{Features, slot};
+use crate::slot::{Features, awake_slot, is_asleep, slot};
 use dev_core::Device;
 use lab_num::{Micros, NoMemory};
 use rv_atomic::Watch;
 use rv_hart::Hart;
 
 /// The copies of the interpreter in the loops of a turn, of which each is called from one place, so
-/// that it is inlined there: those of boards of one processor without atomic instructions, which are
-/// wired or not and have compressed instructions or not, and those of all other boards, likewise.
+/// that it is inlined there: those of boards of one processor, which are wired or not and have
+/// compressed instructions or not, and those of boards of several processors, likewise.
 pub const UNWIRED: u8 = 0;
 
 pub const WIRED: u8 = 1;
@@ -56,8 +56,8 @@ fn number_after(harts: u8, number: u8) -> u8
     if number + 1 == harts { 0 } else { number + 1 }
 }
 
-/// The next `count` slots of a board of one processor without atomic instructions, all in this
-/// microsecond, or those up to an idle one.
+/// The next `count` slots of a board of one processor, all in this microsecond, or those up to an
+/// idle one.
 #[inline(always)]
 fn slots_alone<const COPY: u8, D: Device>(
     hart: &mut Hart,
@@ -69,6 +69,7 @@ fn slots_alone<const COPY: u8, D: Device>(
 ) -> Ended
     requires alone { features.shared ≡ false }
     requires seat { IsSeat features (seat 0 hart.old watch.old bus.old) }
+    requires some { 0 < count }
     requires most { count ≤ bus.old.numbers.speed }
     ensures ended { HasEnded count result }
     ensures run { let old = state_alone hart.old watch.old bus.old in
@@ -78,12 +79,46 @@ fn slots_alone<const COPY: u8, D: Device>(
     ensures reserved { All (IsReservation bus.old.space.plan) watch.old →
         All (IsReservation bus.old.space.plan) watch.new }
 {
-    for i in 0..count {
-        let Ok(idle) = slot::<COPY, D>(hart, 0, watch, bus, features, now) else {
-            return Ended::Starved(i);
+    if is_asleep(hart) {
+        let Ok(_) = slot(hart, 0, watch, bus, features, now) else {
+            return Ended::Starved(0);
         };
-        if idle {
-            return Ended::Idle(i + 1);
+        return Ended::Idle(1);
+    }
+    slots_awake::<COPY, D>(hart, watch, bus, features, now, count)
+}
+
+/// The same of a processor that is not halted and does not wait. What no instruction can change is asked once.
+#[inline(always)]
+fn slots_awake<const COPY: u8, D: Device>(
+    hart: &mut Hart,
+    watch: &mut Watch,
+    bus: &mut HartBus<D>,
+    features: Features,
+    now: Micros,
+    count: u64,
+) -> Ended
+    requires alone { features.shared ≡ false }
+    requires seat { IsSeat features (seat 0 hart.old watch.old bus.old) }
+    requires awake { IsAwake hart.old }
+    requires most { count ≤ bus.old.numbers.speed }
+    ensures ended { HasEnded count result }
+    ensures run { let old = state_alone hart.old watch.old bus.old in
+        state_alone hart.new watch.new bus.new ≡ after old (stretch old.view now.0 0 (taken_of count result)) }
+    ensures same { IsSameHart hart.old hart.new }
+    ensures watch { length watch.new ≡ length watch.old }
+    ensures reserved { All (IsReservation bus.old.space.plan) watch.old →
+        All (IsReservation bus.old.space.plan) watch.new }
+{
+    bus.begin_slot(now);
+    let mut left = count;
+    while left > 0 {
+        let Ok(rests) = awake_slot::<COPY, D>(hart, 0, watch, bus, features, now) else {
+            return Ended::Starved(count - left);
+        };
+        left -= 1;
+        if rests {
+            return Ended::Idle(count - left);
         }
     }
     Ended::All
@@ -96,7 +131,7 @@ impl<D: Device> Board<D> {
     {
         let plan = self.bus.space.plan();
         Features {
-            shared: plan.cpus.items().len() != 1 || plan.letters.a,
+            shared: plan.cpus.items().len() != 1,
             wired: self.bus.space.is_wired(),
             halves: plan.letters.c,
         }
@@ -154,6 +189,7 @@ impl<D: Device> Board<D> {
     /// may pass by themselves.
     #[inline(always)]
     fn slots_of<const COPY: u8>(&mut self, features: Features, now: Micros, count: u64) -> Ended
+        requires some { 0 < count }
         requires features { features ≡ features_of self.old.view.space.plan }
         requires most { count ≤ self.old.view.numbers.speed }
         ensures ended { HasEnded count result }
@@ -166,10 +202,11 @@ impl<D: Device> Board<D> {
         }
     }
 
-    /// The same of a board of one processor without atomic instructions.
+    /// The same of a board of one processor.
     #[inline(always)]
     fn slots_of_one<const COPY: u8>(&mut self, features: Features, now: Micros, count: u64) -> Ended
         requires alone { features.shared ≡ false }
+        requires some { 0 < count }
         requires features { features ≡ features_of self.old.view.space.plan }
         requires most { count ≤ self.old.view.numbers.speed }
         ensures ended { HasEnded count result }
@@ -179,7 +216,7 @@ impl<D: Device> Board<D> {
         slots_alone::<COPY, D>(hart, &mut self.watch, &mut self.bus, features, now, count)
     }
 
-    /// The same of any other board. Each kind has a loop of its own.
+    /// The same of a board of several processors. Each kind has a loop of its own.
     #[inline(always)]
     fn slots_of_shared(&mut self, features: Features, now: Micros, count: u64) -> Ended
         requires shared { features.shared ≡ true }

@@ -2,11 +2,13 @@
 use Rattle.std.specs.Prelude.{◌≡◌, ℕ, Bool, true, false}
 use Rattle.rv_decode.specs.declared.instruction.Instr.{Instr}
 use Rattle.rv_decode.specs.declared.instruction.Op.{Op}
-use Rattle.rv_decode.specs.declared.instruction.Op.TheVariants.{Beq, Bne, Blt, Bge, Bltu, Bgeu}
+use Rattle.rv_decode.specs.declared.instruction.Op.TheVariants.{Lui, Jal, Jalr, Beq, Bne, Blt, Bge, Bltu, Bgeu}
 use Rattle.rv_decode.specs.declared.instruction.Op.TheVariants.{Addi, Slti, Sltiu}
 use Rattle.rv_decode.specs.declared.instruction.Op.TheVariants.{Xori, Ori, Andi, Slli, Srli, Srai, Add, Sub, Sll, Slt}
 use Rattle.rv_decode.specs.declared.instruction.Op.TheVariants.{Sltu, Xor, Srl, Sra, Or, And}
 use Rattle.rv_decode.specs.declared.instruction.Op.TheVariants.{Mul, Mulh, Mulhsu, Mulhu, Div, Divu, Rem, Remu}
+use Rattle.rv_decode.specs.declared.instruction.Op.TheVariants.{Lb, Lh, Lw, Lbu, Lhu, Sb, Sh, Sw}
+use Rattle.rv_decode.specs.declared.instruction.Op.TheVariants.{Csrrw, Csrrs, Csrrc, Csrrwi, Csrrsi, Csrrci}
 use Rattle.rv_hart.specs.declared.csr.Lines.{Lines}
 use Rattle.rv_hart.specs.Core.{Core, reg, finish}
 use Rattle.rv_exec.specs.Effect.{Done, branches, effect_by}
@@ -66,3 +68,76 @@ is_on_registers Divu = true
 is_on_registers Rem = true
 is_on_registers Remu = true
 is_on_registers _ = false
+
+-- the loads
+abbrev pub is_load : Op → Bool
+is_load Lb = true
+is_load Lh = true
+is_load Lw = true
+is_load Lbu = true
+is_load Lhu = true
+is_load _ = false
+
+-- the stores
+abbrev pub is_store : Op → Bool
+is_store Sb = true
+is_store Sh = true
+is_store Sw = true
+is_store _ = false
+
+-- the operations on two registers of the base
+abbrev pub is_base : Op → Bool
+is_base Add = true
+is_base Sub = true
+is_base Sll = true
+is_base Slt = true
+is_base Sltu = true
+is_base Xor = true
+is_base Srl = true
+is_base Sra = true
+is_base Or = true
+is_base And = true
+is_base _ = false
+
+-- the products, quotients and remainders
+abbrev pub is_product : Op → Bool
+is_product Mul = true
+is_product Mulh = true
+is_product Mulhsu = true
+is_product Mulhu = true
+is_product Div = true
+is_product Divu = true
+is_product Rem = true
+is_product Remu = true
+is_product _ = false
+
+-- the accesses of control and status registers
+abbrev pub is_on_csr : Op → Bool
+is_on_csr Csrrw = true
+is_on_csr Csrrs = true
+is_on_csr Csrrc = true
+is_on_csr Csrrwi = true
+is_on_csr Csrrsi = true
+is_on_csr Csrrci = true
+is_on_csr _ = false
+
+-- the instructions that half-words stand for, but for EBREAK (section 16.8)
+abbrev pub is_short : Op → Bool
+is_short Jal = true
+is_short Jalr = true
+is_short Beq = true
+is_short Bne = true
+is_short Lw = true
+is_short Sw = true
+is_short Lui = true
+is_short Addi = true
+is_short Andi = true
+is_short Slli = true
+is_short Srli = true
+is_short Srai = true
+is_short Add = true
+is_short Sub = true
+is_short Xor = true
+is_short Or = true
+is_short And = true
+is_short _ = false

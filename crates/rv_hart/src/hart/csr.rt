@@ -14,11 +14,12 @@ impl Hart {
     fn mstatus(&self) -> u32
         ensures { result ≡ status self.now }
     {
-        (u32::from(self.state.on) << 3) + (u32::from(self.state.before) << 7) + (0b11 << 11)
+        (u32::from(self.on) << 3) + (u32::from(self.before) << 7) + (0b11 << 11)
     }
 
     /// Reads a CSR (Privileged ISA 2.2 and 3.1). `lines` gives what mip, time and timeh read.
     #[tactic(auto, unfolding(crate::specs::Csr::csr_read, crate::specs::Csr::is_listed))]
+    #[inline(always)]
     pub fn csr_read(&self, number: u32, lines: Lines) -> Result<u32, CsrFault>
         ensures value { result ≡ ok_or (csr_read self.now lines number) CsrFault.Illegal }
         ensures listed { is_ok result ≡ is_listed number }
@@ -26,22 +27,22 @@ impl Hart {
         match number {
             numbers::MSTATUS => Ok(self.mstatus()),
             numbers::MSTATUSH => Ok(0),
-            numbers::MISA => Ok(self.state.letters.misa()),
-            numbers::MIE => Ok(self.state.mie),
-            numbers::MTVEC => Ok(self.state.mtvec),
-            numbers::MSCRATCH => Ok(self.state.mscratch),
-            numbers::MEPC => Ok(self.state.mepc),
-            numbers::MCAUSE => Ok(self.state.mcause),
-            numbers::MTVAL => Ok(self.state.mtval),
+            numbers::MISA => Ok(self.letters.misa()),
+            numbers::MIE => Ok(self.mie),
+            numbers::MTVEC => Ok(self.mtvec),
+            numbers::MSCRATCH => Ok(self.mscratch),
+            numbers::MEPC => Ok(self.mepc),
+            numbers::MCAUSE => Ok(self.mcause),
+            numbers::MTVAL => Ok(self.mtval),
             numbers::MIP => Ok(lines.mip & INTERRUPT_BITS),
-            numbers::MCYCLE | numbers::CYCLE => Ok(low_half(self.state.mcycle)),
-            numbers::MCYCLEH | numbers::CYCLEH => Ok(high_half(self.state.mcycle)),
-            numbers::MINSTRET | numbers::INSTRET => Ok(low_half(self.state.minstret)),
-            numbers::MINSTRETH | numbers::INSTRETH => Ok(high_half(self.state.minstret)),
+            numbers::MCYCLE | numbers::CYCLE => Ok(low_half(self.counters.mcycle())),
+            numbers::MCYCLEH | numbers::CYCLEH => Ok(high_half(self.counters.mcycle())),
+            numbers::MINSTRET | numbers::INSTRET => Ok(low_half(self.counters.minstret())),
+            numbers::MINSTRETH | numbers::INSTRETH => Ok(high_half(self.counters.minstret())),
             numbers::TIME => Ok(low_half(lines.mtime)),
             numbers::TIMEH => Ok(high_half(lines.mtime)),
             numbers::MVENDORID | numbers::MARCHID | numbers::MIMPID => Ok(0),
-            numbers::MHARTID => Ok(u32::from(self.state.number)),
+            numbers::MHARTID => Ok(u32::from(self.number)),
             _ => Err(CsrFault::Illegal),
         }
     }
@@ -49,6 +50,7 @@ impl Hart {
     /// Writes a CSR (Privileged ISA 2.2 and 3.1), of which the bits that it does not hold are
     /// ignored.
     #[tactic(auto, unfolding(crate::specs::Csr::csr_written, crate::specs::Csr::is_listed))]
+    #[inline(always)]
     pub fn csr_write(&mut self, number: u32, value: u32) -> Result<(), CsrFault>
         ensures written { self.new ≡ unwrap_or (csr_written self.old number value) self.old }
         ensures answer { is_ok result ≡ is_some (csr_written self.old number value) }
@@ -58,20 +60,32 @@ impl Hart {
     {
         match number {
             numbers::MSTATUS => {
-                self.state.on = is_set(value, 3);
-                self.state.before = is_set(value, 7);
+                self.on = is_set(value, 3);
+                self.before = is_set(value, 7);
             }
             numbers::MSTATUSH | numbers::MISA | numbers::MIP => {}
-            numbers::MIE => self.state.mie = value & INTERRUPT_BITS,
-            numbers::MTVEC => self.state.mtvec = value & !0b10,
-            numbers::MSCRATCH => self.state.mscratch = value,
-            numbers::MEPC => self.state.mepc = value & self.state.letters.return_bits(),
-            numbers::MCAUSE => self.state.mcause = value,
-            numbers::MTVAL => self.state.mtval = value,
-            numbers::MCYCLE => self.state.mcycle = with_low_half(self.state.mcycle, value),
-            numbers::MCYCLEH => self.state.mcycle = with_high_half(self.state.mcycle, value),
-            numbers::MINSTRET => self.state.minstret = with_low_half(self.state.minstret, value),
-            numbers::MINSTRETH => self.state.minstret = with_high_half(self.state.minstret, value),
+            numbers::MIE => self.mie = value & INTERRUPT_BITS,
+            numbers::MTVEC => self.mtvec = value & !0b10,
+            numbers::MSCRATCH => self.mscratch = value,
+            numbers::MEPC => self.mepc = value & self.letters.return_bits(),
+            numbers::MCAUSE => self.mcause = value,
+            numbers::MTVAL => self.mtval = value,
+            numbers::MCYCLE => {
+                let mcycle = with_low_half(self.counters.mcycle(), value);
+                self.counters.set_mcycle(mcycle);
+            }
+            numbers::MCYCLEH => {
+                let mcycle = with_high_half(self.counters.mcycle(), value);
+                self.counters.set_mcycle(mcycle);
+            }
+            numbers::MINSTRET => {
+                let minstret = with_low_half(self.counters.minstret(), value);
+                self.counters.set_minstret(minstret);
+            }
+            numbers::MINSTRETH => {
+                let minstret = with_high_half(self.counters.minstret(), value);
+                self.counters.set_minstret(minstret);
+            }
             _ => return Err(CsrFault::Illegal),
         }
         Ok(())

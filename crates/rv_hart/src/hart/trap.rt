@@ -28,17 +28,17 @@ impl Hart {
         ensures value { result ≡ chosen self.now mip }
         ensures none { is_none result ≡ (not self.now.mstatus_mie || bit_and mip self.now.mie == 0) }
     {
-        if !self.state.on {
+        if !self.on {
             return None;
         }
-        most_urgent(mip & self.state.mie)
+        most_urgent(mip & self.mie)
     }
 
     /// Whether an interrupt is both pending and enabled by mie, whatever MIE is. It ends a wait.
     pub fn is_ready(&self, mip: u32) -> bool
         ensures { result ≡ is_ready self.now mip }
     {
-        mip & self.state.mie != 0
+        mip & self.mie != 0
     }
 
     /// Where a trap of this cause goes.
@@ -47,7 +47,7 @@ impl Hart {
         ensures value { result ≡ target self.now cause }
         ensures aligned { result % 4 ≡ 0 }
     {
-        let mtvec = self.state.mtvec;
+        let mtvec = self.mtvec;
         let base = aligned(mtvec);
         if is_set(cause, 31) && is_set(mtvec, 0) {
             base.wrapping_add((cause % INTERRUPT).wrapping_mul(4))
@@ -62,12 +62,12 @@ impl Hart {
         ensures { self.new ≡ enter self.old cause value }
     {
         let target = self.trap_target(cause);
-        self.state.mepc = self.state.pc;
-        self.state.mcause = cause;
-        self.state.mtval = value;
-        self.state.before = self.state.on;
-        self.state.on = false;
-        self.state.pc = target;
+        self.mepc = self.pc;
+        self.mcause = cause;
+        self.mtval = value;
+        self.before = self.on;
+        self.on = false;
+        self.pc = target;
     }
 
     /// Enters the trap of an exception, with what mtval is to show.
@@ -89,8 +89,8 @@ impl Hart {
     pub fn leave_trap(&mut self)
         ensures { self.new ≡ leave self.old }
     {
-        self.state.pc = self.state.mepc;
-        self.state.on = self.state.before;
-        self.state.before = true;
+        self.pc = self.mepc;
+        self.on = self.before;
+        self.before = true;
     }
 }

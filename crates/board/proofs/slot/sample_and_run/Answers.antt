@@ -5,7 +5,6 @@ use Rattle.sys_bus.specs.declared.plan.BoardPlan.{BoardPlan}
 use Rattle.board.specs.HartView.{SlotState, slot_state}
 use Rattle.board_space.specs.BoardState.{controller_to}
 use Rattle.board.specs.Inner.Outbox.{bus_with}
-use Rattle.board.specs.Inner.Seat.{features_of}
 use Rattle.board_space.specs.Lines.{sampled}
 use Rattle.board_space.specs.Space.{Space}
 use Rattle.board.specs.HartBus.{HartBus}
@@ -24,8 +23,6 @@ run-requires g c =
     record {
       seat =
           record {
-            features = c.requires.seat.features ∙ ap features_of was;
-            letters = c.requires.seat.letters ∙ ap {A = BoardPlan} (λ plan. plan.letters) was;
             number = c.requires.seat.number;
             harts = c.requires.seat.harts ∙ ap {A = BoardPlan} (λ plan. length plan.cpus) was;
           };

@@ -16,6 +16,10 @@ loop-i-init g c = record {
   most = omega arith;
 }
 
+pub slots_of-requires-clause-some : goal.slots_of-requires-clause-some
+slots_of-requires-clause-some g c =
+    omega (arith, c.min-count.ensures, c.loop-i.invariant.within, c.loop-i-test.true)
+
 pub slots_of-requires-clause-features : goal.slots_of-requires-clause-features
 slots_of-requires-clause-features g c =
     let kept = ap {A = State} (λ s. s.view.space.plan) c.loop-i.invariant.run ∙ plan-stretch _ _ _ _ in

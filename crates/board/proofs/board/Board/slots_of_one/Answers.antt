@@ -31,7 +31,7 @@ returns-clause-run g c =
     let parts = not-shared c.args.self.now.view.space.plan
     (sym (ap {A = Features} (λ w. w.shared) c.requires.features) ∙ c.requires.alone) in
     let one : length cores ≡ 1 =
-    c.self.invariant.harts ∙ ap {A = State} (λ s. length s.view.space.plan.cpus) c.self.view_is ∙ parts.0 in
+    c.self.invariant.harts ∙ ap {A = State} (λ s. length s.view.space.plan.cpus) c.self.view_is ∙ parts in
     let first = c.index_mut-hart.ensures.value ∙ get_or_default cores 0 old initial (omega (arith, one)) in
     let alone = alone_is cores board.next board.watch board.bus one c.self.invariant.next
     ∙ ap (λ core. state_alone core board.watch board.bus) (sym first) in
