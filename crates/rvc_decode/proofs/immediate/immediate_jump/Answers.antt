@@ -18,5 +18,14 @@ returns c =
     c.bits.result * 0xFFFFF800 + c.bits-2.result * 16 + c.bits-3.result * 256 + c.bits-4.result * 1024 +
     c.bits-5.result * 64 + c.bits-6.result * 128 + c.bits-7.result * 2 + c.bits-8.result * 32 in
     signed_12 (field half 12 1) low whole spread (omega arith)
-    (omega (arith, c.bits.ensures, c.bits-2.ensures, c.bits-3.ensures, c.bits-4.ensures, c.bits-5.ensures,
-    c.bits-6.ensures, c.bits-7.ensures, c.bits-8.ensures)) (omega arith) (omega arith)
+    (omega (
+      arith,
+      c.bits.ensures,
+      c.bits-2.ensures,
+      c.bits-3.ensures,
+      c.bits-4.ensures,
+      c.bits-5.ensures,
+      c.bits-6.ensures,
+      c.bits-7.ensures,
+      c.bits-8.ensures,
+    )) (omega arith) (omega arith)
