@@ -1,4 +1,4 @@
-"""Proves the crates of the program side by side, and builds the program.
+"""Proves the crates of the program side by side, and builds the program, and then lab_probe.
 
     tools/build [LANES]
 
@@ -23,11 +23,9 @@ from typing import IO, Dict, Iterable, Iterator, List, Optional
 
 from labdev import trials
 from labdev.crates import PROGRAM as CRATE_OF_PROGRAM, below, uses_of
-from labdev.released import sum_of_sources
+from labdev.released import LAB, Program, all_programs, sum_of_sources
 from labtools.common.program import TOP, end_unless, number_of
 
-FOLDER = f"{TOP}/crates/lab_cli"
-PROGRAM = f"{FOLDER}/out/lab_cli"
 PARTS = "src", "specs", "proofs"
 # The sums of the crates as they were proved last.
 PROVED = pathlib.Path(f"{TOP}/out/build.proved")
@@ -138,11 +136,11 @@ def proved_before() -> Dict[str, str]:
 
 
 class Run:
-    """A run of `rt` in the program's crate, whose text is kept in a file too. It is ended with this program."""
+    """A run of `rt` in a program's crate, whose text is kept in a file too. It is ended with this program."""
 
-    def __init__(self, words: List[str], log: IO[str]) -> None:
+    def __init__(self, words: List[str], log: IO[str], program: Program = LAB) -> None:
         self.log = log
-        self.process = trials.begin(["rt", *words], FOLDER)
+        self.process = trials.begin(["rt", *words], f"{TOP}/crates/{program.crate}")
 
     def __enter__(self) -> "Run":
         return self
@@ -227,22 +225,19 @@ def prove(lanes: int, plan: Plan, log: IO[str], start: float) -> None:
     plan.keep()
 
 
-def build_program(log: IO[str]) -> None:
-    """Builds the program, and runs it without words, so that it says how it is called."""
-    if os.path.exists(PROGRAM):
-        os.remove(PROGRAM)
-    with Run(["run"], log) as run:
+def build_program(program: Program, log: IO[str]) -> None:
+    """Builds a program, and runs it without words, so that it says how it is called. What it uses and was not proved is
+    proved first. Keeps beside it from which sources it was built, unless they have changed meanwhile."""
+    before = sum_of_sources(program)
+    if program.built.exists():
+        program.built.unlink()
+    with Run(["run"], log, program) as run:
         said = list(run.lines())
-    if not os.path.exists(PROGRAM):
-        raise Failed(f"the program is not built:\n{last_of(said)}")
-
-
-def keep_sum(before: str) -> None:
-    """Keeps beside the program from which sources it was built, unless they have changed meanwhile."""
-    if sum_of_sources() != before:
+    if not program.built.exists():
+        raise Failed(f"the program {program.name} is not built:\n{last_of(said)}")
+    if sum_of_sources(program) != before:
         raise Failed("the sources have changed during the build; start it again")
-    with open(f"{PROGRAM}.sources", "w", encoding="ascii") as file:
-        file.write(f"{before}\n")
+    program.built.with_name(f"{program.crate}.sources").write_text(f"{before}\n", encoding="ascii")
 
 
 def build(lanes: int, log: IO[str]) -> None:
@@ -252,9 +247,11 @@ def build(lanes: int, log: IO[str]) -> None:
     minutes = f"{plan.whole() / 60:.0f} minutes" if plan.whole() >= 90 else "a minute"
     tell(f"proves and builds the program, {lanes} crates at a time, in about {minutes}; later runs start at once")
     prove(lanes, plan, log, start)
-    build_program(log)
-    keep_sum(before)
-    tell(f"the program is built, after {time_since(start)}")
+    if sum_of_sources() != before:
+        raise Failed("the sources have changed during the build; start it again")
+    for program in all_programs():
+        build_program(program, log)
+        tell(f"the program {program.name} is built, after {time_since(start)}")
 
 
 def main(words: List[str]) -> int:

@@ -1,12 +1,12 @@
-"""Puts the program that was built here into the repository, as bin/lab, and two sums into bin/lab.sources: that of the
-sources that it was built from, and its own.
+"""Puts the programs that were built here into the repository, as bin/lab and bin/lab_probe, and two sums of each into
+bin/NAME.sources: that of the sources that it was built from, and its own.
 
-    tools/release                    copies crates/lab_cli/out/lab_cli, which tools/build or .ci/run has built
-    tools/release --check            compares bin/lab with it, byte for byte, and changes nothing
+    tools/release                    copies crates/CRATE/out/CRATE, which tools/build or .ci/run has built
+    tools/release --check            compares those in bin/ with them, byte for byte, and changes nothing
     tools/release --version X.Y.Z    gives the repository a new version, and copies no program
 
 The first two refuse a program that was not built from the present sources, or that was built again by itself since. Run
-the first once where the sources of the program have changed, before they land.
+the first once where the sources of a program have changed, before they land.
 
 --version writes VERSION and python/VERSION, gives the part Unreleased of CHANGELOG.md the version and today's date,
 puts the same changes into packaging/changelog, and changes the version in README.md and docs/PROJECT.md. It refuses a
@@ -21,13 +21,11 @@ import subprocess
 import tempfile
 from typing import Callable, List
 
-from labdev.released import Sums, fault_of, sum_of, sum_of_sources, sums_kept_with
+from labdev.released import Program, Sums, all_programs, fault_of, sum_of, sum_of_sources, sums_kept_with
 from labdev.versions import NoVersion, is_version, texts_with
 from labtools.common.program import TOP, end_unless, end_wrong
 
 USAGE = "[--check | --version X.Y.Z]"
-BUILT = TOP / "crates/lab_cli/out/lab_cli"
-RELEASED = TOP / "bin/lab"
 # What the kit writes into each program that it has proved.
 MARK = b"rattle logic="
 
@@ -41,19 +39,19 @@ def told(path: pathlib.Path) -> str:
     return str(path.relative_to(TOP))
 
 
-def built_from(sources: str) -> bytes:
-    """Returns the bytes of the program that was built here from the sources of this sum."""
-    kept = sums_kept_with(BUILT).sources
-    if not BUILT.is_file() or not kept:
-        raise Refused(f"{told(BUILT)} is not built: tools/build or .ci/run builds it")
+def built_from(built: pathlib.Path, sources: str) -> bytes:
+    """Returns the bytes of a program that was built here from the sources of this sum."""
+    kept = sums_kept_with(built).sources
+    if not built.is_file() or not kept:
+        raise Refused(f"{told(built)} is not built: tools/build or .ci/run builds it")
     if kept != sources:
-        raise Refused(f"{told(BUILT)} was not built from the present sources: tools/build or .ci/run builds it")
-    if BUILT.stat().st_mtime_ns > BUILT.with_name("lab_cli.sources").stat().st_mtime_ns:
-        raise Refused(f"{told(BUILT)} was built again after its sum was kept: tools/build proves and builds it")
-    program = BUILT.read_bytes()
-    if MARK not in program:
-        raise Refused(f"{told(BUILT)} does not say by which logic it was proved, as what the kit builds does")
-    return program
+        raise Refused(f"{told(built)} was not built from the present sources: tools/build or .ci/run builds it")
+    if built.stat().st_mtime_ns > built.with_name(f"{built.name}.sources").stat().st_mtime_ns:
+        raise Refused(f"{told(built)} was built again after its sum was kept: tools/build proves and builds it")
+    held = built.read_bytes()
+    if MARK not in held:
+        raise Refused(f"{told(built)} does not say by which logic it was proved, as what the kit builds does")
+    return held
 
 
 def put(path: pathlib.Path, held: bytes, mode: int) -> None:
@@ -64,15 +62,21 @@ def put(path: pathlib.Path, held: bytes, mode: int) -> None:
     os.replace(made.name, path)
 
 
+def release_one(program: Program) -> None:
+    """Copies a program, and keeps its sums."""
+    sources = sum_of_sources(program)
+    held = built_from(program.built, sources)
+    path = program.released
+    path.parent.mkdir(exist_ok=True)
+    put(path, held, 0o755)
+    sums = Sums(sources, sum_of(held))
+    put(path.with_name(f"{path.name}.sources"), sums.text.encode(), 0o644)
+    print(f"{told(path)} is the program of the sources {sources}: {len(held)} bytes, {sums.program}")
+
+
 def release() -> None:
-    """Copies the program, and keeps the sums."""
-    sources = sum_of_sources()
-    program = built_from(sources)
-    RELEASED.parent.mkdir(exist_ok=True)
-    put(RELEASED, program, 0o755)
-    sums = Sums(sources, sum_of(program))
-    put(RELEASED.with_name("lab.sources"), sums.text.encode(), 0o644)
-    print(f"bin/lab is the program of the sources {sources}: {len(program)} bytes, {sums.program}")
+    for program in all_programs():
+        release_one(program)
 
 
 def first_difference(one: bytes, other: bytes) -> int:
@@ -81,23 +85,29 @@ def first_difference(one: bytes, other: bytes) -> int:
     return next((place for place, (left, right) in pairs if left != right), min(len(one), len(other)))
 
 
-def compare() -> None:
-    """Compares what is released with the present sources, and with what was built from them."""
-    sources = sum_of_sources()
-    if sums_kept_with(RELEASED).sources != sources:
-        raise Refused("bin/lab.sources is not the sum of the present sources: build, and run tools/release")
-    program = built_from(sources)
-    released = RELEASED.read_bytes() if RELEASED.is_file() else b""
-    if released != program:
+def compare_one(program: Program) -> None:
+    """Compares a released program with the present sources, and with what was built from them."""
+    path, name = program.released, told(program.released)
+    sources = sum_of_sources(program)
+    if sums_kept_with(path).sources != sources:
+        raise Refused(f"{name}.sources is not the sum of the present sources: build, and run tools/release")
+    built = built_from(program.built, sources)
+    released = path.read_bytes() if path.is_file() else b""
+    if released != built:
         raise Refused(
-            f"bin/lab is not what was built here: {len(released)} bytes, and not {len(program)}, and another byte at "
-            f"{first_difference(released, program)}. The same kit makes the same bytes (bin/README.md)"
+            f"{name} is not what was built here: {len(released)} bytes, and not {len(built)}, and another byte at "
+            f"{first_difference(released, built)}. The same kit makes the same bytes (bin/README.md)"
         )
-    fault = fault_of(RELEASED)
+    fault = fault_of(path)
     if fault:
         raise Refused(fault)
-    if not os.access(RELEASED, os.X_OK):
-        raise Refused("bin/lab may not be executed")
+    if not os.access(path, os.X_OK):
+        raise Refused(f"{name} may not be executed")
+
+
+def compare() -> None:
+    for program in all_programs():
+        compare_one(program)
 
 
 def give_version(version: str) -> None:

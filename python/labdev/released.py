@@ -1,12 +1,40 @@
-"""The file NAME.sources beside a built program. Its first line is the sum of the sources that the program was built
-from. That of bin/lab has a second line, the sum (sha256) of the program itself, which shows a damaged one."""
+"""The programs that are released, and the file NAME.sources beside a built one. Its first line is the sum of the
+sources that the program was built from. That of a released one has a second line, the sum (sha256) of the program
+itself, which shows a damaged one."""
 import hashlib
 import pathlib
 import subprocess
 from dataclasses import dataclass
-from typing import Optional
+from typing import List, Optional
 
+from labdev.crates import PROGRAM, uses_of
 from labtools.common.program import TOP
+
+
+@dataclass(frozen=True)
+class Program:
+    """A program, by its name in bin/ and by its crate."""
+
+    name: str
+    crate: str
+
+    @property
+    def built(self) -> pathlib.Path:
+        return TOP / "crates" / self.crate / "out" / self.crate
+
+    @property
+    def released(self) -> pathlib.Path:
+        return TOP / "bin" / self.name
+
+
+LAB = Program("lab", PROGRAM)
+OTHERS = (Program("lab_probe", "lab_probe"),)
+
+
+def all_programs() -> List[Program]:
+    """Returns `lab`, and the others that crates.txt has."""
+    crates = uses_of((TOP / "crates.txt").read_text(encoding="utf-8"))
+    return [LAB, *(it for it in OTHERS if it.crate in crates)]
 
 
 @dataclass(frozen=True)
@@ -21,9 +49,9 @@ class Sums:
         return f"{self.sources}\n{self.program}\n"
 
 
-def sum_of_sources() -> str:
+def sum_of_sources(program: Program = LAB) -> str:
     """Returns the sum of all present sources of the program."""
-    return subprocess.check_output([str(TOP / "tools/sources")], text=True).strip()
+    return subprocess.check_output([str(TOP / "tools/sources"), program.crate], text=True).strip()
 
 
 def sum_of(program: bytes) -> str:

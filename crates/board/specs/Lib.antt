@@ -8,6 +8,7 @@ pub mod HartView
 pub mod Slot
 pub mod Stretch
 pub mod Idle
+pub mod NextSlot
 pub mod Numbered
 pub mod Sent
 pub mod New

@@ -4,6 +4,7 @@ ghost use Rattle.std.specs.List.{list_all, range_with_len};
 ghost use Rattle.std.specs.Prelude.{map, All, slice_get, slice_index_or, OnOk, OnErr, IfOk, IfErr, IsTrue};
 
 mod idle;
+mod next_slot;
 mod saved;
 mod slots;
 
@@ -12,6 +13,7 @@ use crate::harts::{all_asleep, all_halted, new_harts, reset_all};
 use crate::slot::Features;
 use dev_core::{Device, Entry, Payload, Post, Taken};
 use lab_num::{BoardNo, Micros, NoMemory};
+pub use next_slot::NextSlot;
 use rv_atomic::Watch;
 use rv_hart::Hart;
 use slots::{SHARED, UNWIRED, UNWIRED_HALVES, WIRED, WIRED_HALVES};
@@ -72,6 +74,7 @@ impl<D: Device> Board<D> {
     ghost use Rattle.board_space.specs.Space.{device_at};
     ghost use Rattle.board.specs.View.{core_at, quiet};
     ghost use Rattle.page_ram.specs.Bytes.{zeros};
+    ghost use Rattle.rv_atomic.specs.Watch.{reserved};
     ghost use Rattle.rv_hart.specs.Core.{alignment, reg};
     ghost use Rattle.board.specs.Stretch.{IsTurn};
 
@@ -349,6 +352,22 @@ impl<D: Device> Board<D> {
         ensures { result ≡ self.now.view.numbers.entered }
     {
         self.bus.outbox.numbers.entered
+    }
+
+    /// How many cycles a processor has counted, by its CSR mcycle.
+    pub fn cycles(&self, hart: u8) -> u64
+        requires { hart < length self.now.view.cores }
+        ensures { result ≡ (core_at self.now.view hart).mcycle }
+    {
+        self.harts[usize::from(hart)].state().mcycle
+    }
+
+    /// The address of the word that a processor has reserved, if it has reserved one.
+    pub fn reserved(&self, hart: u8) -> Option<u32>
+        requires { hart < length self.now.view.cores }
+        ensures { result ≡ reserved self.now.view.watch hart }
+    {
+        self.watch.reserved(hart)
     }
 
     /// How many instructions a processor has retired, by its CSR minstret.

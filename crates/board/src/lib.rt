@@ -13,5 +13,5 @@ mod outbox;
 mod sharing;
 mod slot;
 
-pub use board::{Board, SlotAt, Turn};
+pub use board::{Board, NextSlot, SlotAt, Turn};
 pub use board_space::{BoardState, state_fits};

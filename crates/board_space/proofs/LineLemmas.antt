@@ -246,3 +246,33 @@ undone s state is =
         controller_to (sampled_by o (sources_up s)) (option_map (λ c. c.state) o) ≡ o
     back None = refl
     back (Some c) = refl
+
+-- what is remembered of a processor, as long as the line of the timer interrupt is as it was, is what it sees once the
+-- interrupt controller has sampled
+pub coming_mip :
+    (s : Space) (o : Option Remembered) (r : Remembered) (hart t : ℕ) → IsRight s o → o ≡ Some r →
+    r.timer ≡ timer_up s.timer t → hart < length s.plan.cpus →
+    (remembered_lines r hart).mip ≡ (lines_of (sampled s) hart t).mip
+unfolding lines_of
+coming_mip s None r hart t right is timer below = absurd (cc)
+coming_mip s (Some q) r hart t right is timer below =
+    let kept : q ≡ r = cc in
+    let now : (sampled s ≡ s) × IsRead s r = rw kept at right in
+    rw (now.0, ← timer) (now.1.mips hart below)
+
+-- the line of the timer interrupt was read in the microsecond of what is remembered
+pub timer_then :
+    (s : Space) (o : Option Remembered) (r : Remembered) → IsRight s o → o ≡ Some r → r.timer ≡ timer_up s.timer r.at.0
+timer_then s None r right is = absurd (cc)
+timer_then s (Some q) r right is =
+    let kept : q ≡ r = cc in
+    let now : (sampled s ≡ s) × IsRead s r = rw kept at right in
+    now.1.timer
+
+-- what it sees with the interrupt controller as a sample leaves it
+pub coming_from :
+    (s : Space) (controller : Option Controller) (timer : Bool) (mip hart t : ℕ) →
+    controller ≡ (sampled s).controller → timer ≡ timer_up s.timer t →
+    mip ≡ mip_of (record s { controller = controller }) timer hart → mip ≡ (lines_of (sampled s) hart t).mip
+unfolding sampled lines_of
+coming_from s controller timer mip hart t is at from = from ∙ rw (is, at) refl

@@ -5,7 +5,7 @@ use Rattle.lab_io.specs.declared.sink.Sink.{Ghosts as SinkGhosts}
 use Rattle.lab_io.specs.declared.store.Store.{Ghosts as StoreGhosts}
 use Rattle.lab_num.specs.declared.number.NoMemory.{NoMemory}
 use Rattle.lab_top.specs.declared.status.Status.{Status}
-use Rattle.lab_cli.specs.Run.{IsRun, IsRunBy}
+use Rattle.lab_top.specs.Promise.{IsRun, IsRunBy}
 
 pub some_words :
     {F K S : Type 0} (files : FilesGhosts F) (out : SinkGhosts K) (store : StoreGhosts S) (words : List (List ℕ))

@@ -2,7 +2,7 @@
 ghost use Rattle.std.specs.Prelude.{◌≡◌, IfOk, OnErr, map, string_bytes};
 ghost use Rattle.std.specs.Process.{exit_status};
 ghost use Rattle.lab_top.specs.Headline.{exit_number};
-ghost use Rattle.lab_cli.specs.Run.{IsRun, IsRunBy};
+ghost use Rattle.lab_top.specs.Promise.{IsRun, IsRunBy};
 
 use chips::full_stock;
 use floor_run::NoGate;

@@ -145,6 +145,16 @@ pub(crate) fn step_lent<R: Threads + Wait + Copy + Send + Sync, D: Device + Send
     Ok(RoundOutput { posts, entries })
 }
 
+/// Tells a watcher the names of the boards.
+fn tell_names<D: Device + Send, W: Watcher<BoxedBoardJob<D>>>(
+    boards: &[NamedBoard<D>],
+    watcher: &mut W,
+) {
+    for (place, board) in boards.iter().enumerate() {
+        watcher.named(place, board.name().as_str());
+    }
+}
+
 /// Has every board take the slots of its part of the open grant by itself, in order of time, and shows the boards to a
 /// watcher before each slot. All that the boards have posted meanwhile is taken out of their mail.
 pub(crate) fn step_driven<
@@ -176,6 +186,7 @@ pub(crate) fn step_driven<
         all_entries made.entries.items ≡ flat_map (entries_made (in_round from.0 q)) boards.old) }
 {
     laws::arrival_laws();
+    tell_names(boards, watcher);
     let (mut boss, passes) = Mail::begin(rt, alloc, boards.len() as u8)?;
     let jobs = lend_all(alloc, boards, &boss, passes, source, from, q)?;
     let jobs = run_boards_in_order(rt, jobs, watcher)?;

@@ -74,6 +74,26 @@ impl Plic {
         self.state.shut = union(self.state.shut, raised);
     }
 
+    /// This PLIC as a sample of these lines would leave it.
+    pub fn sampled(&self, lines: u128) -> Plic
+        ensures { result ≡ record self.now { state = sample self.now.sources self.now.state lines } }
+    {
+        let mut copy = Plic {
+            sources: self.sources,
+            contexts: self.contexts,
+            state: self.state,
+        };
+        copy.sample(lines);
+        copy
+    }
+
+    /// How many contexts there are.
+    pub fn contexts(&self) -> u8
+        ensures { result ≡ self.now.contexts }
+    {
+        self.contexts
+    }
+
     /// Whether the PLIC interrupts a context.
     #[tactic(auto, using(crate::proofs::BestLemmas::best_lemmas))]
     pub fn output(&self, context: u8) -> bool

@@ -115,6 +115,8 @@ fn take_all<R: Threads + Wait + Copy + Send + Sync, J: Timed, W: Watcher<J>>(
     requires sent { All (λ job. (J.meaning job).unsent ≡ []) jobs.old.items }
     ensures began { OnOk result ((W.told watcher.new).began ≡ jobs.old.items) }
     ensures follow { OnOk result (Follow J.meaning J.sent J.state_after (W.told watcher.new) jobs.new.items) }
+    ensures stand { OnOk result (AllZip (Partly J.meaning J.sent J.state_after) jobs.old.items jobs.new.items) }
+    ensures none { OnOk result (NoneLeft J.meaning jobs.new.items (length jobs.new.items)) }
     ensures jobs { OnOk result (map J.meaning jobs.new.items
         ≡ map (λ job. finished J.state_after (J.meaning job)) jobs.old.items) }
     ensures posts { OnOk result (map J.sent jobs.new.items
@@ -129,7 +131,7 @@ fn take_all<R: Threads + Wait + Copy + Send + Sync, J: Timed, W: Watcher<J>>(
 
 /// Runs every job to its end and hands the jobs back in their order, with all their posts sent. They take their slots
 /// in order of time, that of a lower place first where two lie at one time. The watcher is shown the jobs before each
-/// slot, or told of the idle ones that one has passed over. At `Err` the jobs are lost.
+/// slot, or told of the idle ones that one has passed over, and is shown them at the end. At `Err` the jobs are lost.
 pub fn run_in_order<R: Threads + Wait + Copy + Send + Sync, J: Timed, W: Watcher<J>>(
     rt: &R,
     mut jobs: Vec<J>,
@@ -138,6 +140,8 @@ pub fn run_in_order<R: Threads + Wait + Copy + Send + Sync, J: Timed, W: Watcher
     requires { All (λ job. (J.meaning job).unsent ≡ []) jobs.items }
     ensures began { OnOk result ((W.told watcher.new).began ≡ jobs.items) }
     ensures follow { IfOk result (λ done. Follow J.meaning J.sent J.state_after (W.told watcher.new) done.items) }
+    ensures shown { IfOk result (λ done.
+        ((W.told watcher.new).jobs ≡ done.items) × ((W.told watcher.new).slots ≡ 0)) }
     ensures jobs { IfOk result (λ done.
         map J.meaning done.items ≡ map (λ job. finished J.state_after (J.meaning job)) jobs.items) }
     ensures posts { IfOk result (λ done.
@@ -145,5 +149,6 @@ pub fn run_in_order<R: Threads + Wait + Copy + Send + Sync, J: Timed, W: Watcher
 {
     watcher.begin(&jobs);
     take_all(rt, &mut jobs, watcher)?;
+    watcher.end(&jobs);
     Ok(jobs)
 }

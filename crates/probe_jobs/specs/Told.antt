@@ -28,6 +28,10 @@ shown told slot jobs = record { began = told.began; jobs = jobs; last = slot; sl
 abbrev pub passed : {J : Type 0} → Told J → Slot → List J → Told J
 passed told slot jobs = record { began = told.began; jobs = jobs; last = slot; slots = 0 }
 
+-- it is shown the jobs after the last of their slots
+abbrev pub ended : {J : Type 0} → Told J → List J → Told J
+ended told jobs = record { began = told.began; jobs = jobs; last = told.last; slots = 0 }
+
 module _ {J S : Type 0} (meaning : J → Job S) (sent : J → List Post)
     (state_after : S → List (Option Post) → ℕ → S) where
   -- the jobs have taken the slots that it was told of, and no others

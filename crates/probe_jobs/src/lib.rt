@@ -2,11 +2,13 @@
 //! slot, in the very states that they have in a round that nobody watches.
 #![tactic(auto)]
 
+mod ledger;
 mod slot;
 mod timed;
 mod unwatched;
 mod watcher;
 
+pub use ledger::Ledger;
 pub use slot::Slot;
 pub use timed::Timed;
 pub use unwatched::Unwatched;

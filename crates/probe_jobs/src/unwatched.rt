@@ -1,62 +1,46 @@
 //! No watcher.
 
+use crate::ledger::Ledger;
 use crate::slot::Slot;
 use crate::timed::Timed;
 use crate::watcher::Watcher;
 use std::alloc::Global;
-use std::snapshot::Snapshot;
 
 /// Who watches nothing, so that a round goes the ways that it goes without a watcher.
 #[derive(Drop)]
 pub struct Unwatched<J> {
-    began: Snapshot<Vec<J>>,
-    jobs: Snapshot<Vec<J>>,
-    last: Snapshot<Slot>,
-    slots: Snapshot<u8>,
+    ledger: Ledger<J>,
 }
 
 impl<J: Drop> Unwatched<J> {
     pub fn new(alloc: Global) -> Unwatched<J> {
-        let none = Vec::new(alloc);
-        Unwatched {
-            began: Snapshot::of(&none),
-            jobs: Snapshot::of(&none),
-            last: Snapshot::of(&Slot { at: 0, place: 0 }),
-            slots: Snapshot::of(&0),
-        }
+        let ledger = Ledger::new(alloc);
+        Unwatched { ledger }
     }
 }
 
 impl<J: Timed> Watcher<J> for Unwatched<J> {
-    ghost use Rattle.std.specs.Prelude.{◌≡◌};
-
-    ghost told = { λ w. record {
-      began = w.began.value.items;
-      jobs = w.jobs.value.items;
-      last = w.last.value;
-      slots = w.slots.value;
-    } };
+    ghost told = { λ w. w.ledger };
 
     fn drives(&self) -> bool {
         false
     }
 
+    fn named(&mut self, _place: usize, _name: &str) {}
+
     fn begin(&mut self, jobs: &Vec<J>) {
-        self.began = Snapshot::of(jobs);
-        self.jobs = Snapshot::of(jobs);
-        self.last = Snapshot::of(&Slot { at: 0, place: 0 });
-        self.slots = Snapshot::of(&0);
+        self.ledger.begin(jobs);
     }
 
     fn before(&mut self, slot: Slot, jobs: &Vec<J>) {
-        self.jobs = Snapshot::of(jobs);
-        self.last = Snapshot::of(&slot);
-        self.slots = Snapshot::of(&1);
+        self.ledger.before(slot, jobs);
     }
 
     fn passed(&mut self, slot: Slot, _slots: u64, jobs: &Vec<J>) {
-        self.jobs = Snapshot::of(jobs);
-        self.last = Snapshot::of(&slot);
-        self.slots = Snapshot::of(&0);
+        self.ledger.passed(slot, jobs);
+    }
+
+    fn end(&mut self, jobs: &Vec<J>) {
+        self.ledger.end(jobs);
     }
 }

@@ -9,14 +9,18 @@ pub trait Watcher<J: Timed> {
     ghost use Rattle.std.specs.Prelude.{◌≡◌, length};
     ghost use Rattle.std.specs.List.{AllZip};
     ghost use Rattle.probe_jobs.specs.Course.{Partly};
-    ghost use Rattle.probe_jobs.specs.Next.{IsNext, NoneBefore};
-    ghost use Rattle.probe_jobs.specs.Told.{Told, Follow, HavePassed, first, shown, passed};
+    ghost use Rattle.probe_jobs.specs.Next.{IsNext, NoneBefore, NoneLeft};
+    ghost use Rattle.probe_jobs.specs.Told.{Told, Follow, HavePassed, first, shown, passed, ended};
 
     /// What it was told last.
     ghost told: { Self → Told J };
 
     /// Whether it wants to be shown anything at all.
     fn drives(&self) -> bool;
+
+    /// Is told the name of the job in a place. It is told those of all jobs before it is shown them.
+    fn named(&mut self, place: usize, name: &str)
+        ensures { told self.new ≡ told self.old };
 
     /// Is shown the jobs before the first of their slots.
     fn begin(&mut self, jobs: &Vec<J>)
@@ -38,4 +42,12 @@ pub trait Watcher<J: Timed> {
             jobs.now.items }
         requires stand { AllZip (Partly J.meaning J.sent J.state_after) (told self.old).began jobs.now.items }
         ensures { told self.new ≡ passed (told self.old) slot jobs.now.items };
+
+    /// Is shown the jobs after the last of their slots: none has one left, and they have taken the slots that it was
+    /// told of, and no others.
+    fn end(&mut self, jobs: &Vec<J>)
+        requires none { NoneLeft J.meaning jobs.now.items (length jobs.now.items) }
+        requires follow { Follow J.meaning J.sent J.state_after (told self.old) jobs.now.items }
+        requires stand { AllZip (Partly J.meaning J.sent J.state_after) (told self.old).began jobs.now.items }
+        ensures { told self.new ≡ ended (told self.old) jobs.now.items };
 }

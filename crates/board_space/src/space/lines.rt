@@ -12,7 +12,7 @@ use super::interrupts::sample;
 use crate::remembered::Remembered;
 use dev_core::Device;
 use lab_num::Micros;
-use plic::laws;
+use plic::{Plic, laws};
 use rv_hart::{Lines, MOST_HARTS};
 use sys_bus::{Wire, WireFrom, WirePin};
 
@@ -28,6 +28,16 @@ fn with_source(set: u128, source: u8) -> u128
     ensures { (s : ℕ) → s < 128 → has result s ≡ (has set s || (source == s)) }
 {
     if source < 128 { set | 1 << source } else { set }
+}
+
+/// Whether the line to a context of an interrupt controller is up.
+fn is_context_up(controller: &Option<Plic>, context: u8) -> bool
+    ensures { result ≡ context_up controller.now context }
+{
+    match controller {
+        Some(controller) => context < controller.contexts() && controller.output(context),
+        None => false,
+    }
 }
 
 /// Whether a wire ends at this pin of this processor.
@@ -47,17 +57,6 @@ impl<D: Device> Space<D> {
         match self.devices.get(usize::from(dev)) {
             Some(device) => device.line(),
             None => false,
-        }
-    }
-
-    fn is_context_up(&self, context: u8) -> bool
-        ensures { result ≡ context_up self.now.controller context }
-    {
-        match (&self.controller, self.plan.plic) {
-            (Some(controller), Some(size)) => {
-                context < size.contexts && controller.output(context)
-            }
-            _ => false,
         }
     }
 
@@ -94,44 +93,47 @@ impl<D: Device> Space<D> {
         }
     }
 
-    /// Whether the line is up where a wire begins, if that of the timer interrupt is up or not.
-    fn is_up(&self, timer: bool, from: WireFrom) -> bool
-        ensures { result ≡ is_up self.now timer from }
+    /// Whether the line is up where a wire begins, with this interrupt controller, if that of the timer interrupt is up
+    /// or not.
+    fn is_up(&self, controller: &Option<Plic>, timer: bool, from: WireFrom) -> bool
+        ensures { result ≡ is_up (record self.now { controller = controller.now }) timer from }
     {
         match from {
             WireFrom::Soft => self.is_software_up(),
             WireFrom::Timer => timer,
-            WireFrom::Context(context) => self.is_context_up(context),
+            WireFrom::Context(context) => is_context_up(controller, context),
             WireFrom::Dev(dev) => self.is_device_up(dev),
         }
     }
 
-    fn is_pin_up(&self, timer: bool, hart: u8, pin: u8) -> bool
-        ensures { result ≡ pin_up self.now timer hart pin }
+    fn is_pin_up(&self, controller: &Option<Plic>, timer: bool, hart: u8, pin: u8) -> bool
+        ensures { result ≡ pin_up (record self.now { controller = controller.now }) timer hart pin }
     {
         let wires = self.plan.wires.items();
-        wires.iter().any(|wire| ends_at_pin(hart, pin, wire.pin) && self.is_up(timer, wire.from))
+        wires.iter().any(|wire| ends_at_pin(hart, pin, wire.pin)
+            && self.is_up(controller, timer, wire.from))
     }
 
-    fn pending(&self, timer: bool, hart: u8, pin: u8) -> u32
+    fn pending(&self, controller: &Option<Plic>, timer: bool, hart: u8, pin: u8) -> u32
         requires { pin < 32 }
-        ensures value { result ≡ pending self.now timer hart pin }
+        ensures value { result ≡ pending (record self.now { controller = controller.now }) timer hart pin }
         ensures most { result ≤ 2 ^ pin }
     {
-        if self.is_pin_up(timer, hart, pin) {
+        if self.is_pin_up(controller, timer, hart, pin) {
             1 << pin
         } else {
             0
         }
     }
 
+    /// What a processor sees in its `mip`, with this interrupt controller.
     #[tactic(auto, unfolding(crate::specs::Lines::mip_of))]
-    fn mip(&self, timer: bool, hart: u8) -> u32
-        ensures { result ≡ mip_of self.now timer hart }
+    fn mip(&self, controller: &Option<Plic>, timer: bool, hart: u8) -> u32
+        ensures { result ≡ mip_of (record self.now { controller = controller.now }) timer hart }
     {
-        self.pending(timer, hart, SOFTWARE)
-            + self.pending(timer, hart, TIMER)
-            + self.pending(timer, hart, EXTERNAL)
+        self.pending(controller, timer, hart, SOFTWARE)
+            + self.pending(controller, timer, hart, TIMER)
+            + self.pending(controller, timer, hart, EXTERNAL)
     }
 
     /// What each processor of the board sees in its `mip`.
@@ -141,7 +143,7 @@ impl<D: Device> Space<D> {
         let harts = self.plan().cpus.items().len();
         let mut mips = [0; MOST_HARTS];
         for hart in 0..harts {
-            mips[hart] = self.mip(timer, hart as u8);
+            mips[hart] = self.mip(&self.controller, timer, hart as u8);
         }
         mips
     }
@@ -224,6 +226,41 @@ impl<D: Device> Space<D> {
         let remembered = self.read_lines(now);
         self.remembered = Some(remembered);
         remembered.lines(hart)
+    }
+
+    /// The interrupt controller, as it is once it has sampled its sources.
+    fn sampled_controller(&self) -> Option<Plic>
+        ensures { result ≡ (sampled self.now).controller }
+    {
+        let controller = self.controller.as_ref()?;
+        Some(controller.sampled(self.sources_up()))
+    }
+
+    /// What a processor sees in its `mip`, where that is known without sampling.
+    fn known_mip(&self, hart: u8, now: Micros) -> Option<u32>
+        requires { hart < length self.now.plan.cpus }
+        ensures { IfSome result (λ mip. mip ≡ (lines_of (sampled self.now) hart now.0).mip) }
+    {
+        let remembered = self.remembered?;
+        if remembered.at != now && self.is_timer_up(now) != remembered.timer {
+            return None;
+        }
+        Some(remembered.lines(hart).mip)
+    }
+
+    /// What a processor sees in its `mip` in a slot in this microsecond, whose first step is that the interrupt
+    /// controller samples its sources. Nothing is sampled here.
+    pub fn coming_mip(&self, hart: u8, now: Micros) -> u32
+        requires { hart < length self.now.plan.cpus }
+        ensures { result ≡ (lines_of (sampled self.now) hart now.0).mip }
+    {
+        if !self.wired {
+            return self.no_lines().mip;
+        }
+        if let Some(mip) = self.known_mip(hart, now) {
+            return mip;
+        }
+        self.mip(&self.sampled_controller(), self.is_timer_up(now), hart)
     }
 
     /// Whether there is a line that may be up.

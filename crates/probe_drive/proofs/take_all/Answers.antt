@@ -79,3 +79,11 @@ returns-clause-posts g c =
     c.args.jobs.now.items c.slots.jobs.items c.slots.invariant.stand
     (subst (λ (jobs : List g.row.J.Denot). NoneLeft g.J.Job.meaning jobs (length jobs)) c.deref.ensures.value
     c.in_default.ensures)
+
+pub returns-clause-stand : goal.returns-clause-stand
+returns-clause-stand g c = c.slots.invariant.stand
+
+pub returns-clause-none : goal.returns-clause-none
+returns-clause-none g c =
+    subst (λ (jobs : List g.row.J.Denot). NoneLeft g.J.Job.meaning jobs (length jobs)) c.deref.ensures.value
+    c.in_default.ensures

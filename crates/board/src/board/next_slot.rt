@@ -1,0 +1,49 @@
+//! What a board does in its next slot, told before it does it.
+ghost use Rattle.std.specs.Prelude.{◌≡◌};
+ghost use Rattle.board.specs.NextSlot.{kind_of, next_slot};
+
+use super::Board;
+use crate::slot::taken;
+use dev_core::Device;
+use lab_num::Micros;
+use rv_hart::Hart;
+
+/// What a processor does in a slot.
+#[derive(Clone, Copy)]
+pub enum NextSlot {
+    /// It is halted, and does nothing.
+    Halted,
+    /// It waits for an interrupt, and goes on so: its cycle counts.
+    Waits,
+    /// It enters the interrupt of this number.
+    Interrupt(u8),
+    /// It does the instruction at its pc, or enters the trap of its exception.
+    Instruction,
+}
+
+/// What a processor does in a slot in which it sees this in its `mip`.
+fn kind_of(hart: &Hart, mip: u32) -> NextSlot
+    ensures { result ≡ kind_of hart.now mip }
+{
+    if hart.halted() {
+        return NextSlot::Halted;
+    }
+    if hart.waiting() && !hart.is_ready(mip) {
+        return NextSlot::Waits;
+    }
+    match taken(hart, mip) {
+        Some(n) => NextSlot::Interrupt(n),
+        None => NextSlot::Instruction,
+    }
+}
+
+impl<D: Device> Board<D> {
+    /// What the next slot does, if it lies in this microsecond.
+    pub fn next_slot(&self, at: Micros) -> NextSlot
+        ensures { result ≡ next_slot self.now.view at.0 }
+    {
+        let number = self.next;
+        let mip = self.bus.space.coming_mip(number, at);
+        kind_of(&self.harts[usize::from(number)], mip)
+    }
+}

@@ -1,0 +1,5 @@
+use Rattle.std.proofs.Common.{◌≤◌}
+use Rattle.probe_look.proofs.teller.Teller.decimal.Given as goal
+
+abbrev pub invariant-digits : goal.invariant-digits
+invariant-digits g l = l.begin ≤ 20
