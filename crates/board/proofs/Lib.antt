@@ -1,5 +1,6 @@
 pub mod HoldLemmas
 pub mod IdleLemmas
+pub mod NextLemmas
 pub mod NumberLemmas
 pub mod SeatLemmas
 pub mod SentLemmas

@@ -22,6 +22,7 @@ use Rattle.sys_bus.specs.declared.plan.PlicSize.{PlicSize}
 use Rattle.sys_bus.specs.declared.wire.Wire.{Wire}
 use Rattle.sys_bus.specs.declared.wire.WireFrom.{WireFrom}
 use Rattle.sys_bus.specs.declared.wire.WireFrom.TheVariants.{Soft, Timer as TimerLine, Context, Dev}
+use Rattle.rv_hart.specs.declared.csr.Lines.{Lines}
 use Rattle.board_space.specs.declared.remembered.Remembered.{Remembered}
 use Rattle.board_space.specs.Fit.{IsFit, IsStateOf}
 use Rattle.board_space.specs.BoardState.{controller_to}
@@ -250,24 +251,28 @@ undone s state is =
 -- what is remembered of a processor, as long as the line of the timer interrupt is as it was, is what it sees once the
 -- interrupt controller has sampled
 pub coming_mip :
-    (s : Space) (o : Option Remembered) (r : Remembered) (hart t : ℕ) → IsRight s o → o ≡ Some r →
-    r.timer ≡ timer_up s.timer t → hart < length s.plan.cpus →
-    (remembered_lines r hart).mip ≡ (lines_of (sampled s) hart t).mip
+    (s now : Space) (o : Option Remembered) (r : Remembered) (hart t : ℕ) → s ≡ now → IsRight s o → o ≡ Some r →
+    r.timer ≡ timer_up now.timer t → hart < length now.plan.cpus →
+    (remembered_lines r hart).mip ≡ (lines_of (sampled now) hart t).mip
 unfolding lines_of
-coming_mip s None r hart t right is timer below = absurd (cc)
-coming_mip s (Some q) r hart t right is timer below =
+coming_mip s now None r hart t same right is timer below = absurd (cc)
+coming_mip s now (Some q) r hart t same right is timer below =
     let kept : q ≡ r = cc in
-    let now : (sampled s ≡ s) × IsRead s r = rw kept at right in
-    rw (now.0, ← timer) (now.1.mips hart below)
+    let read : (sampled now ≡ now) × IsRead now r = rw (same, kept) at right in
+    rw (read.0, ← timer) (read.1.mips hart below)
 
--- the line of the timer interrupt was read in the microsecond of what is remembered
-pub timer_then :
-    (s : Space) (o : Option Remembered) (r : Remembered) → IsRight s o → o ≡ Some r → r.timer ≡ timer_up s.timer r.at.0
-timer_then s None r right is = absurd (cc)
-timer_then s (Some q) r right is =
-    let kept : q ≡ r = cc in
-    let now : (sampled s ≡ s) × IsRead s r = rw kept at right in
-    now.1.timer
+-- what it sees where to sample changes nothing
+pub settled_mip :
+    (s : Space) (lines : Lines) (hart t : ℕ) → sampled s ≡ s → lines ≡ lines_of s hart t →
+    lines.mip ≡ (lines_of (sampled s) hart t).mip
+settled_mip s lines hart t same is = rw (same, is) refl
+
+-- a space with its own interrupt controller is itself
+pub with_own :
+    (s now : Space) (controller : Option Controller) (timer : Bool) (hart mip : ℕ) → s ≡ now →
+    controller ≡ s.controller → mip ≡ mip_of (record now { controller = controller }) timer hart →
+    mip ≡ mip_of now timer hart
+with_own s now controller timer hart mip same own is = is ∙ rw (own, same) refl
 
 -- what it sees with the interrupt controller as a sample leaves it
 pub coming_from :

@@ -1,4 +1,5 @@
 //! Idle slots that a board has passed over.
+ghost use Rattle.std.specs.Prelude.{◌≤◌};
 
 use crate::kind::Kind;
 use crate::open_slot::harts_of;
@@ -11,33 +12,41 @@ pub struct Passed {
     /// How many slots.
     slots: u64,
     /// The processor that takes the first one.
-    first: u64,
+    first: u8,
     /// How many processors the board has, at least one.
-    harts: u64,
+    harts: u8,
 }
 
 impl Passed {
     /// So many slots, of which this is the board after them.
     pub fn of<D: Device>(slots: u64, board: &Board<D>) -> Passed {
-        let harts = u64::from(harts_of(board));
-        let next = u64::from(board.next());
+        let harts = harts_of(board);
+        let count = u64::from(harts);
+        let first = (u64::from(board.next()) + count - slots % count) % count;
         Passed {
             slots,
-            first: (next + harts - slots % harts) % harts,
+            first: first as u8,
             harts,
         }
     }
 
+    fn harts(&self) -> u64
+        ensures least { 1 ≤ result }
+        ensures most { result ≤ 255 }
+    {
+        u64::from(self.harts.max(1))
+    }
+
     /// How many of the slots a processor takes.
     pub fn of_hart(&self, hart: u8) -> u64 {
-        let harts = self.harts.max(1);
-        let turn = (u64::from(hart) + harts.saturating_sub(self.first)) % harts;
+        let harts = self.harts();
+        let turn = (u64::from(hart) + harts.saturating_sub(u64::from(self.first))) % harts;
         (self.slots / harts).saturating_add(u64::from(turn < self.slots % harts))
     }
 
     /// The processor that takes the slot of this number, counted from 0.
     pub fn hart_of(&self, slot: u64) -> u8 {
-        (self.first.saturating_add(slot) % self.harts.clamp(1, 255)) as u8
+        (u64::from(self.first).saturating_add(slot) % self.harts()) as u8
     }
 }
 

@@ -57,9 +57,9 @@ impl<'a, R: Eprint> Teller<'a, R> {
         let mut digits = [0; MOST_DIGITS];
         let mut begin = MOST_DIGITS;
         let mut rest = number;
-        'digits: for place in (0..MOST_DIGITS).rev() {
-            digits[place] = DIGITS[(rest % 10) as usize];
-            begin = place;
+        'digits: while begin > 0 {
+            begin -= 1;
+            digits[begin] = DIGITS[(rest % 10) as usize];
             rest /= 10;
             if rest == 0 {
                 break;
@@ -74,8 +74,8 @@ impl<'a, R: Eprint> Teller<'a, R> {
     {
         let mut digits = [0; 8];
         let mut rest = number;
-        for place in (0..count).rev() {
-            digits[place] = DIGITS[(rest % 16) as usize];
+        for place in 0..count {
+            digits[count - 1 - place] = DIGITS[(rest % 16) as usize];
             rest /= 16;
         }
         self.push(&digits[..count]);

@@ -95,11 +95,11 @@ fn tell_found<R: Eprint>(found: Option<Found>, teller: &mut Teller<'_, R>) {
 
 /// Tells the registers that have changed.
 fn tell_registers<R: Eprint>(before: &[u32; 32], after: &[u32; 32], teller: &mut Teller<'_, R>) {
-    for (n, name) in REGISTERS.into_iter().enumerate() {
+    for n in 0..32 {
         let value = after[n];
         if before[n] != value {
             teller.text(" ");
-            teller.text(name);
+            teller.text(REGISTERS[n]);
             teller.text("=");
             teller.hex(value, 8);
         }

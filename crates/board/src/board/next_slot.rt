@@ -1,5 +1,6 @@
 //! What a board does in its next slot, told before it does it.
-ghost use Rattle.std.specs.Prelude.{◌≡◌};
+ghost use Rattle.std.specs.Prelude.{◌≡◌, ◌&&◌, not};
+ghost use Rattle.rv_hart.specs.Trap.{is_ready};
 ghost use Rattle.board.specs.NextSlot.{kind_of, next_slot};
 
 use super::Board;
@@ -21,6 +22,13 @@ pub enum NextSlot {
     Instruction,
 }
 
+/// Whether a processor waits, and goes on so where it sees this in its `mip`.
+fn goes_on_waiting(hart: &Hart, mip: u32) -> bool
+    ensures { result ≡ (hart.now.waiting && not (is_ready hart.now mip)) }
+{
+    hart.waiting() && !hart.is_ready(mip)
+}
+
 /// What a processor does in a slot in which it sees this in its `mip`.
 fn kind_of(hart: &Hart, mip: u32) -> NextSlot
     ensures { result ≡ kind_of hart.now mip }
@@ -28,7 +36,7 @@ fn kind_of(hart: &Hart, mip: u32) -> NextSlot
     if hart.halted() {
         return NextSlot::Halted;
     }
-    if hart.waiting() && !hart.is_ready(mip) {
+    if goes_on_waiting(hart, mip) {
         return NextSlot::Waits;
     }
     match taken(hart, mip) {

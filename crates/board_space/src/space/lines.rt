@@ -229,11 +229,14 @@ impl<D: Device> Space<D> {
     }
 
     /// The interrupt controller, as it is once it has sampled its sources.
+    #[tactic(auto, unfolding(crate::specs::Lines::sampled))]
     fn sampled_controller(&self) -> Option<Plic>
         ensures { result ≡ (sampled self.now).controller }
     {
-        let controller = self.controller.as_ref()?;
-        Some(controller.sampled(self.sources_up()))
+        match &self.controller {
+            Some(controller) => Some(controller.sampled(self.sources_up())),
+            None => None,
+        }
     }
 
     /// What a processor sees in its `mip`, where that is known without sampling.
@@ -242,7 +245,7 @@ impl<D: Device> Space<D> {
         ensures { IfSome result (λ mip. mip ≡ (lines_of (sampled self.now) hart now.0).mip) }
     {
         let remembered = self.remembered?;
-        if remembered.at != now && self.is_timer_up(now) != remembered.timer {
+        if self.is_timer_up(now) != remembered.timer {
             return None;
         }
         Some(remembered.lines(hart).mip)
