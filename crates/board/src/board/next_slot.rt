@@ -1,7 +1,9 @@
 //! What a board does in its next slot, told before it does it.
-ghost use Rattle.std.specs.Prelude.{◌≡◌, ◌&&◌, not};
+ghost use Rattle.std.specs.Prelude.{◌≡◌, ◌<◌, ◌&&◌, not, length};
 ghost use Rattle.rv_hart.specs.Trap.{is_ready};
+ghost use Rattle.board_space.specs.Lines.{sampled, lines_of};
 ghost use Rattle.board.specs.NextSlot.{kind_of, next_slot};
+ghost use Rattle.board.specs.View.{core_at};
 
 use super::Board;
 use crate::slot::taken;
@@ -46,12 +48,22 @@ fn kind_of(hart: &Hart, mip: u32) -> NextSlot
 }
 
 impl<D: Device> Board<D> {
+    /// What a slot of a processor does, if it comes next and lies in this microsecond.
+    fn slot_of(&self, hart: u8, at: Micros) -> NextSlot
+        requires { hart < length self.now.view.cores }
+        ensures { result ≡ kind_of (core_at self.now.view hart)
+            (lines_of (sampled self.now.view.space) hart at.0).mip }
+    {
+        let mip = self.bus.space.coming_mip(hart, at);
+        kind_of(&self.harts[usize::from(hart)], mip)
+    }
+
     /// What the next slot does, if it lies in this microsecond.
     pub fn next_slot(&self, at: Micros) -> NextSlot
         ensures { result ≡ next_slot self.now.view at.0 }
     {
-        let number = self.next;
-        let mip = self.bus.space.coming_mip(number, at);
-        kind_of(&self.harts[usize::from(number)], mip)
+        // a plan that is asked for is the one of the processors
+        let _plan = self.plan();
+        self.slot_of(self.next(), at)
     }
 }
