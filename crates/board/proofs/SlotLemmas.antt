@@ -27,7 +27,7 @@ use Rattle.rv_exec.specs.Effect.{Effect, Done, Load, Store, bus_after, core_afte
 use Rattle.board.specs.View.{View, State, quiet, after, core_at}
 use Rattle.board.specs.Slot.{slot, hart_slot, number_after, running, sampling, awake, asleep, woken, cycle, instruction}
 use Rattle.board.proofs.ToldLemmas.{IsKept, kept_same, kept_after, kept_sampled, kept_load, kept_store, kind_kept}
-use Rattle.board.proofs.ToldLemmas.{is_own}
+use Rattle.dev_core.proofs.KindLaws.{is_own}
 use Rattle.board.proofs.ToldLemmas.{sends_own, IsSender, sender_kept, device_there, IsTold, told_kept, told_note}
 
 -- the bus with this space, by which all this was made before

@@ -10,17 +10,13 @@ use Rattle.std.proofs.lemmas.Bool.Decides.{nat_tests}
 use Rattle.std.proofs.lemmas.List.{length-map}
 use Rattle.dev_core.specs.declared.kind.Kind.{Kind}
 use Rattle.dev_core.specs.declared.kind.Kind.TheVariants as kind
-use Rattle.dev_core.specs.declared.payload.Effect.{Effect}
-use Rattle.dev_core.specs.declared.payload.Effect.TheVariants.{Quiet, Send}
 use Rattle.dev_core.specs.declared.payload.Payload.{Payload}
 use Rattle.dev_core.specs.declared.payload.Payload.TheVariants.{Byte, Frame, Finish}
 use Rattle.dev_core.specs.declared.post.What.{What}
 use Rattle.dev_core.specs.declared.state.DevState.{DevState}
-use Rattle.dev_core.specs.declared.state.DevState.TheVariants.{Uart, Can, Finisher}
-use Rattle.dev_core.specs.Can.{can_store_byte}
-use Rattle.dev_core.specs.Device.{kind_of}
-use Rattle.dev_core.specs.Frame.{FrameData}
-use Rattle.dev_core.specs.Uart.{uart_store_byte}
+use Rattle.dev_core.specs.Device.{kind_of, no_device}
+use Rattle.dev_core.specs.Kind.{no_kind}
+use Rattle.dev_core.proofs.KindLaws.{is_own, kind_loaded, kind_stored, sends_own as stored_own, sole_sender}
 use Rattle.sys_bus.specs.declared.region.RegionKind.{RegionKind}
 use Rattle.sys_bus.specs.declared.region.RegionKind.TheVariants as part
 use Rattle.sys_bus.specs.declared.region.Target.{Target}
@@ -56,14 +52,14 @@ kept_after a b c first second = record {
 
 -- what stands at the number of no device
 abbrev absent : BoardDevice
-absent = record { state = Finisher; shown = false }
+absent = record { state = no_device; shown = false }
 
 pub kind_kept :
     (old new : Space) (dev : ℕ) → IsKept old new →
     kind_of (device_at old dev).state ≡ kind_of (device_at new dev).state
 kind_kept old new dev kept =
     sym (get_or-map (λ f. kind_of f.state) old.devices dev absent)
-    ∙ ap (λ kinds. get_or kinds dev kind.Finisher) (sym kept.kinds)
+    ∙ ap (λ kinds. get_or kinds dev no_kind) (sym kept.kinds)
     ∙ get_or-map (λ f. kind_of f.state) new.devices dev absent
 
 shown_kept :
@@ -91,25 +87,21 @@ kept_state s dev state same =
       shown = map-set_same (λ f. f.shown) s.devices dev fitted absent refl;
     }
 
-kind_loaded :
+kind_load :
     (d : DevState) (width : ℕ) (register : Option ℕ) → kind_of (register_load d width register).after ≡ kind_of d
-kind_loaded d width None = refl
-kind_loaded (Uart u) width (Some reg) = refl
-kind_loaded (Can c) width (Some reg) = refl
-kind_loaded Finisher width (Some reg) = refl
+kind_load d width None = refl
+kind_load d width (Some reg) = kind_loaded d reg width
 
-kind_stored :
+kind_store :
     (d : DevState) (width value : ℕ) (register : Option ℕ) →
     kind_of (register_store d width value register).after ≡ kind_of d
-kind_stored d width value None = refl
-kind_stored (Uart u) width value (Some reg) = refl
-kind_stored (Can c) width value (Some reg) = refl
-kind_stored Finisher width value (Some reg) = refl
+kind_store d width value None = refl
+kind_store d width value (Some reg) = kind_stored d reg width value
 
 pub kept_load : (s : Space) (width : ℕ) (target : Target) → IsKept s (after_load s width target)
 kept_load s width (Ram n at) = kept_same s
 kept_load s width (Dev dev at) =
-    kept_state s dev (device_load s dev at width).after (kind_loaded (device_at s dev).state width _)
+    kept_state s dev (device_load s dev at width).after (kind_load (device_at s dev).state width _)
 kept_load s width (Clint at) = kept_same s
 kept_load s width (Plic at) = record { plan = refl; kinds = refl; shown = refl }
 kept_load s width Nothing = kept_same s
@@ -117,7 +109,7 @@ kept_load s width Nothing = kept_same s
 pub kept_store : (s : Space) (t width value : ℕ) (target : Target) → IsKept s (after_store s t width value target)
 kept_store s t width value (Ram n at) = record { plan = refl; kinds = refl; shown = refl }
 kept_store s t width value (Dev dev at) =
-    kept_state s dev (device_store s dev at width value).after (kind_stored (device_at s dev).state width value _)
+    kept_state s dev (device_store s dev at width value).after (kind_store (device_at s dev).state width value _)
 kept_store s t width value (Clint at) = record { plan = refl; kinds = refl; shown = refl }
 kept_store s t width value (Plic at) = record { plan = refl; kinds = refl; shown = refl }
 kept_store s t width value Nothing = kept_same s
@@ -128,25 +120,12 @@ kept_sampled s = record { plan = refl; kinds = refl; shown = refl }
 
 -- ---- what is sent
 
--- whether an effect is one of a device of this kind, which sends its own payloads if it sends anything
-abbrev pub is_own : Kind → Effect → Bool
-is_own k Quiet = true
-is_own k (Send payload) = is_of_kind k payload
-
-own_if :
-    (k : Kind) (test : Bool) (a b : Effect) → IsTrue (is_own k a) → IsTrue (is_own k b) →
-    IsTrue (is_own k (if test then a else b))
-own_if k true a b p q = p
-own_if k false a b p q = q
-
+-- what a device sends is its kind's
 pub sends_own :
     (d : DevState) (width value : ℕ) (register : Option ℕ) →
     IsTrue (is_own (kind_of d) (register_store d width value register).answer)
-unfolding uart_store_byte can_store_byte
 sends_own d width value None = refl
-sends_own (Uart u) width value (Some reg) = search own_if
-sends_own (Can c) width value (Some reg) = search own_if
-sends_own Finisher width value (Some reg) = search own_if
+sends_own d width value (Some reg) = stored_own d reg width value
 
 -- an access that reaches a device by a valid plan reaches one that is there
 pub device_there :
@@ -214,16 +193,6 @@ is_shown s dev k is shown v kept =
       shown = shown';
     }
 
-byte_kind : (k : Kind) (byte : ℕ) → IsTrue (is_of_kind k (Byte byte)) → k ≡ kind.Uart
-byte_kind kind.Uart byte own = refl
-byte_kind kind.Can byte own = absurd (cc)
-byte_kind kind.Finisher byte own = absurd (cc)
-
-frame_kind : (k : Kind) (frame : FrameData) → IsTrue (is_of_kind k (Frame frame)) → k ≡ kind.Can
-frame_kind kind.Uart frame own = absurd (cc)
-frame_kind kind.Can frame own = refl
-frame_kind kind.Finisher frame own = absurd (cc)
-
 -- what is noted of what a device sends is told of a shown one
 pub told_note :
     (s : Space) (dev : ℕ) (payload : Payload) → IsTrue (is_of_kind (kind_of (device_at s dev).state) payload) →
@@ -237,6 +206,6 @@ told_note s dev payload own =
     by_payload :
         (p : Payload) → IsTrue (is_of_kind (kind_of (device_at s dev).state) p) → (device_at s dev).shown ≡ true →
         IfSome (note_of dev p) (IsTold s)
-    by_payload (Byte value) is shown = is_shown s dev kind.Uart (byte_kind _ value is) shown
-    by_payload (Frame frame) is shown = is_shown s dev kind.Can (frame_kind _ frame is) shown
+    by_payload (Byte value) is shown = is_shown s dev kind.Uart (sole_sender kind.Uart (Byte value) _ refl is) shown
+    by_payload (Frame frame) is shown = is_shown s dev kind.Can (sole_sender kind.Can (Frame frame) _ refl is) shown
     by_payload (Finish finish) is shown = tt

@@ -2,26 +2,14 @@
 use Rattle.std.proofs.Common.{◌≡◌, List, [], ◌∷◌, map, Option, Some, None, refl, ap}
 use Rattle.std.specs.Prelude.{option_map}
 use Rattle.clint.specs.Clint.{Timer}
-use Rattle.dev_core.specs.Device.{kind_of, dev_reset}
-use Rattle.dev_core.specs.declared.state.DevState.{DevState}
-use Rattle.dev_core.specs.declared.state.DevState.TheVariants as state
+use Rattle.dev_core.specs.Device.{kind_of}
+use Rattle.dev_core.proofs.KindLaws.{one_reset}
 use Rattle.plic.specs.State.{Controller}
 use Rattle.rv_hart.specs.Core.{Core}
 use Rattle.board.specs.New.{reset_core, reset_device, reset_timer, reset_controller, new_timer, new_controller, size_of}
 use Rattle.board.specs.Space.{BoardDevice}
 
 -- of a device, on its kind and on whether it is shown
-same_reset : (a b : DevState) → kind_of a ≡ kind_of b → dev_reset a ≡ dev_reset b
-same_reset (state.Uart u) (state.Uart v) same = refl
-same_reset (state.Can u) (state.Can v) same = refl
-same_reset state.Finisher state.Finisher same = refl
-same_reset (state.Uart u) (state.Can v) same = absurd (cc)
-same_reset (state.Uart u) state.Finisher same = absurd (cc)
-same_reset (state.Can u) (state.Uart v) same = absurd (cc)
-same_reset (state.Can u) state.Finisher same = absurd (cc)
-same_reset state.Finisher (state.Uart v) same = absurd (cc)
-same_reset state.Finisher (state.Can v) same = absurd (cc)
-
 pub same_resets :
     (xs ys : List BoardDevice) → map (λ f. kind_of f.state) xs ≡ map (λ f. kind_of f.state) ys →
     map (λ f. f.shown) xs ≡ map (λ f. f.shown) ys → map reset_device xs ≡ map reset_device ys
@@ -33,7 +21,7 @@ same_resets (x ∷ xs) (y ∷ ys) kinds shown =
     let kinds' : map (λ f. kind_of f.state) xs ≡ map (λ f. kind_of f.state) ys = cc in
     let seen : x.shown ≡ y.shown = cc in
     let shown' : map (λ f. f.shown) xs ≡ map (λ f. f.shown) ys = cc in
-    rw (same_reset x.state y.state kind, seen, same_resets xs ys kinds' shown') refl
+    rw (one_reset x.state y.state kind, seen, same_resets xs ys kinds' shown') refl
 
 -- of a processor, on whether it is halted, its letters and its number
 pub same_cores :

@@ -5,12 +5,11 @@ use Rattle.std.proofs.Common.{◌||◌, nat_lt, refl, sym, ap, ◌∙◌, arith,
 use Rattle.std.specs.Prelude.{slice_index_or, find, option_map}
 use Rattle.std.proofs.lemmas.Bool.Decides.{nat_tests}
 use Rattle.std.proofs.lemmas.List.{length-map, length-replicate, get_or-set_same, set-get_or, set-set}
-use Rattle.dev_core.specs.Device.{kind_of, dev_reset, IsValid as IsValidState}
-use Rattle.dev_core.specs.declared.state.DevState.{DevState}
-use Rattle.dev_core.specs.declared.state.DevState.TheVariants as state
+use Rattle.dev_core.specs.Device.{kind_of, IsValid as IsValidState}
 use Rattle.dev_core.specs.declared.kind.Kind.{Kind}
+use Rattle.dev_core.specs.declared.state.DevState.{DevState}
 use Rattle.dev_core.specs.Kind.{row_of}
-use Rattle.dev_core.specs.declared.kind.Kind.TheVariants.{Uart, Can, Finisher}
+use Rattle.dev_core.proofs.KindLaws.{kind_of_reset, reset_is_valid}
 use Rattle.clint.specs.Clint.{Timer}
 use Rattle.page_ram.specs.Access.{IsInOnePage}
 use Rattle.plic.specs.State.{Controller}
@@ -218,17 +217,6 @@ fit_controller s controller fit kept = record {
   states = fit.states;
 }
 
--- reset states are valid
-valid_reset : (s : DevState) → IsValidState (dev_reset s)
-valid_reset (state.Uart u) = search rules
-valid_reset (state.Can c) = search rules
-valid_reset state.Finisher = tt
-
-valid_first : (k : Kind) → IsValidState (first_state k)
-valid_first Uart = valid_reset (first_state Uart)
-valid_first Can = valid_reset (first_state Can)
-valid_first Finisher = tt
-
 -- all devices were reset
 pub fit_reset : (s : Space) → IsFit s → IsFit (record s { devices = map reset_device s.devices })
 fit_reset s fit = record {
@@ -239,17 +227,12 @@ fit_reset s fit = record {
   kinds = kinds s.devices ∙ fit.kinds;
   states =
       All-map (λ f. IsValidState f.state) reset_device s.devices
-      (λ k d within. valid_reset (slice_index_or s.devices k d).state);
+      (λ k d within. reset_is_valid (kind_of (slice_index_or s.devices k d).state));
 }
   where
-    kind : (s : DevState) → kind_of (dev_reset s) ≡ kind_of s
-    kind (state.Uart u) = refl
-    kind (state.Can c) = refl
-    kind state.Finisher = refl
-
     kinds : (ds : List BoardDevice) → map (λ f. kind_of f.state) (map reset_device ds) ≡ map (λ f. kind_of f.state) ds
     kinds [] = refl
-    kinds (d ∷ ds) = rw (kind d.state, kinds ds) refl
+    kinds (d ∷ ds) = rw (kind_of_reset (kind_of d.state), kinds ds) refl
 
 -- a new board
 pub fit_new : (plan : BoardPlan) → IsValid plan → IsFit (new_space plan)
@@ -261,7 +244,7 @@ fit_new plan valid = record {
   kinds = kinds plan.kinds;
   states =
       All-map (λ f. IsValidState f.state) hidden (map first_state plan.kinds)
-      (All-map IsValidState first_state plan.kinds (λ k d within. valid_first (slice_index_or plan.kinds k d)));
+      (All-map IsValidState first_state plan.kinds (λ k d within. reset_is_valid (slice_index_or plan.kinds k d)));
 }
   where
     sizes : (ns : List ℕ) → map length (map zeros ns) ≡ ns
@@ -276,14 +259,9 @@ fit_new plan valid = record {
     controller None = refl
     controller (Some size) = refl
 
-    kind : (k : Kind) → kind_of (first_state k) ≡ k
-    kind Uart = refl
-    kind Can = refl
-    kind Finisher = refl
-
     kinds : (ks : List Kind) → map (λ f. kind_of f.state) (map hidden (map first_state ks)) ≡ ks
     kinds [] = refl
-    kinds (k ∷ ks) = rw (kind k, kinds ks) refl
+    kinds (k ∷ ks) = rw (kind_of_reset k, kinds ks) refl
 
 -- from an address to the end of its memory
 pub room_fits :

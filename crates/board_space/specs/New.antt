@@ -2,12 +2,8 @@
 use Rattle.std.specs.Prelude.{ℕ, false, List, map, option_map}
 use Rattle.clint.specs.Clint.{Timer, clint_reset}
 use Rattle.dev_core.specs.declared.kind.Kind.{Kind}
-use Rattle.dev_core.specs.declared.kind.Kind.TheVariants as kind
 use Rattle.dev_core.specs.declared.state.DevState.{DevState}
-use Rattle.dev_core.specs.declared.state.DevState.TheVariants.{Uart, Can, Finisher}
-use Rattle.dev_core.specs.Can.{can_reset}
-use Rattle.dev_core.specs.Device.{dev_reset}
-use Rattle.dev_core.specs.Uart.{uart_reset}
+use Rattle.dev_core.specs.Device.{dev_reset, reset_of}
 use Rattle.page_ram.specs.Bytes.{zeros}
 use Rattle.plic.specs.State.{Controller, plic_reset}
 use Rattle.sys_bus.specs.declared.plan.BoardPlan.{BoardPlan}
@@ -16,9 +12,7 @@ use Rattle.board_space.specs.Space.{Space, BoardDevice}
 
 -- the reset state of a device of a kind
 abbrev pub first_state : Kind → DevState
-first_state kind.Uart = Uart uart_reset
-first_state kind.Can = Can can_reset
-first_state kind.Finisher = Finisher
+first_state kind = reset_of kind
 
 abbrev pub first_states : BoardPlan → List DevState
 first_states plan = map first_state plan.kinds

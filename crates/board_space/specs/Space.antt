@@ -6,9 +6,8 @@ use Rattle.clint.specs.Clint.{Timer, clint_load, clint_stored}
 use Rattle.dev_core.specs.declared.payload.Effect.{Effect}
 use Rattle.dev_core.specs.declared.payload.Effect.TheVariants.{Quiet}
 use Rattle.dev_core.specs.declared.state.DevState.{DevState}
-use Rattle.dev_core.specs.declared.state.DevState.TheVariants.{Finisher}
 use Rattle.dev_core.specs.Answered.{Answered, unchanged}
-use Rattle.dev_core.specs.Device.{dev_load, dev_store}
+use Rattle.dev_core.specs.Device.{dev_load, dev_store, no_device}
 use Rattle.page_ram.specs.Bytes.{value_at, put_value}
 use Rattle.plic.specs.Registers.{plic_load, plic_loaded, plic_stored}
 use Rattle.plic.specs.State.{Controller}
@@ -40,7 +39,7 @@ with_memory s part bytes = record s { memories = slice_set s.memories part bytes
 
 -- the device of a number
 abbrev pub device_at : Space → ℕ → BoardDevice
-device_at s dev = slice_index_or s.devices dev (record { state = Finisher; shown = false })
+device_at s dev = slice_index_or s.devices dev (record { state = no_device; shown = false })
 
 abbrev pub with_device : Space → ℕ → BoardDevice → Space
 with_device s dev fitted = record s { devices = slice_set s.devices dev fitted }

@@ -1,4 +1,5 @@
 -- Lemmas of dev_core.
+pub mod KindLaws
 mod SameLemmas
 mod RowLemmas
 mod StockLemmas

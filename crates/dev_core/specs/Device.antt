@@ -24,11 +24,19 @@ IsValid (Uart u) = IsUartState u
 IsValid (Can c) = IsCanState c
 IsValid Finisher = Unit {0}
 
--- the state after a reset
+-- the reset state of a kind
+abbrev pub reset_of : Kind → DevState
+reset_of uart_kind = Uart uart_reset
+reset_of can_kind = Can can_reset
+reset_of finisher_kind = Finisher
+
+-- the state after a reset, which depends on the kind alone
 abbrev pub dev_reset : DevState → DevState
-dev_reset (Uart u) = Uart uart_reset
-dev_reset (Can c) = Can can_reset
-dev_reset Finisher = Finisher
+dev_reset s = reset_of (kind_of s)
+
+-- what a list of states answers past its end: nothing may rest on which state that is
+abbrev pub no_device : DevState
+no_device = Finisher
 
 -- a load of a register, by an access of so many bytes
 abbrev pub dev_load : DevState → ℕ → ℕ → Answered ℕ DevState

@@ -113,6 +113,10 @@ row_of Uart = uart_row
 row_of Can = can_row
 row_of Finisher = finisher_row
 
+-- what a list of kinds answers past its end: nothing may rest on which kind that is
+abbrev pub no_kind : Kind
+no_kind = Finisher
+
 -- the same kind
 abbrev pub is_kind : Kind → Kind → Bool
 is_kind a b = (row_of a).number == (row_of b).number

@@ -1,12 +1,8 @@
 -- How the parts of the plan of a board are spelled.
-use Rattle.std.proofs.Common.{refl, ap, ◌≡◌, ◌∙◌, ◌⊎◌, inl, inr, ℕ, Bool, true, false, cond, Some, None}
-use Rattle.std.specs.Prelude.{◌==◌}
-use Rattle.std.specs.Option.{option_map}
-use Rattle.std.proofs.lemmas.Bool.{eqb-true}
-use Rattle.std.proofs.lemmas.Option.{none-some, same_Some}
+use Rattle.std.proofs.Common.{refl, ◌≡◌, ◌⊎◌, inl, inr, ℕ}
 use Rattle.dev_core.specs.declared.kind.Kind.{Kind}
-use Rattle.dev_core.specs.declared.kind.Kind.TheVariants.{Uart, Can, Finisher}
-use Rattle.dev_core.specs.Kind.{Row, can_row, finisher_row, kind_numbered, row_of, uart_row}
+use Rattle.dev_core.specs.Kind.{kind_numbered, row_of}
+use Rattle.dev_core.proofs.KindLaws.{kind_again, kind_back}
 use Rattle.sys_bus.specs.declared.region.Region.{Region}
 use Rattle.sys_bus.specs.declared.region.RegionKind.{RegionKind}
 use Rattle.sys_bus.specs.declared.region.RegionKind.TheVariants as region
@@ -28,27 +24,6 @@ use Rattle.lab_encoding.specs.Inner.Laws.{via_lawful}
 -- the place of a kind in its table
 unfoldable pub kind_form : Form Kind
 kind_form = numbered (λ kind. (row_of kind).number) kind_numbered
-
-kind_again : (kind : Kind) → kind_numbered (row_of kind).number ≡ Some kind
-kind_again Uart = refl
-kind_again Can = refl
-kind_again Finisher = refl
-
-kind_back : (n : ℕ) (kind : Kind) → kind_numbered n ≡ Some kind → n ≡ (row_of kind).number
-kind_back n kind is = by_tests (n == 0) (n == 1) (n == 2) refl refl refl is
-  where
-    number_is : (own : Kind) → Some own ≡ Some kind → (row_of own).number ≡ (row_of kind).number
-    number_is own same = ap (λ (kind : Kind). (row_of kind).number) (same_Some own kind same)
-
-    by_tests :
-        (uart can finisher : Bool) → (n == 0) ≡ uart → (n == 1) ≡ can → (n == 2) ≡ finisher →
-        option_map (λ (row : Row). row.kind)
-        (cond uart (Some uart_row) (cond can (Some can_row) (cond finisher (Some finisher_row) None))) ≡ Some kind →
-        n ≡ (row_of kind).number
-    by_tests true can finisher a b c is = eqb-true n 0 a ∙ number_is Uart is
-    by_tests false true finisher a b c is = eqb-true n 1 b ∙ number_is Can is
-    by_tests false false true a b c is = eqb-true n 2 c ∙ number_is Finisher is
-    by_tests false false false a b c is = absurd (none-some kind is)
 
 pub kind_lawful : IsLawful kind_form
 unfolding kind_form

@@ -1,10 +1,12 @@
 -- A laboratory that goes on from where another one has stood.
 use Rattle.std.proofs.Common.{◌≡◌, ◌∙◌, sym, ap, subst, refl, Bool, true, false, cond, ◌||◌, ℕ, ◌+◌, ◌*◌, ◌<◌, ◌≤◌}
 use Rattle.std.proofs.Common.{List, [], ◌∷◌, ◌++◌, length, map, find, set, get_or, take, slice_get, Option, None, Some}
+use Rattle.std.proofs.Common.{not, ◌&&◌}
 use Rattle.std.proofs.Common.{unwrap_or, arith}
 use Rattle.std.specs.Prelude.{◌↔◌, is_some, IsSome, IsNone, OnSome, IsTrue, option_and_then}
 use Rattle.std.specs.List.{All, zip}
 use Rattle.std.specs.Option.{option_map, ForSome}
+use Rattle.std.proofs.lemmas.Bool.{false≢true}
 use Rattle.std.proofs.lemmas.Bool.Decides.{nat_tests}
 use Rattle.std.proofs.lemmas.List.{length-map, length-take-le, map-append, take_more}
 use Rattle.std.proofs.lemmas.List.Elements.{All-head, All-tail}
@@ -16,7 +18,7 @@ use Rattle.lab_num.specs.Route.{has_member}
 use Rattle.lab_num.proofs.KeyLemmas.{member_is}
 use Rattle.dev_core.specs.Kind.{row_of}
 use Rattle.dev_core.specs.declared.kind.Kind.{Kind}
-use Rattle.dev_core.specs.declared.kind.Kind.TheVariants.{Uart, Can, Finisher}
+use Rattle.dev_core.proofs.KindLaws.{each_kind}
 use Rattle.dev_core.specs.declared.payload.Payload.{Payload}
 use Rattle.dev_core.specs.declared.payload.Payload.TheVariants as payload
 use Rattle.dev_core.specs.declared.post.Post.{Post}
@@ -200,9 +202,9 @@ unfinished :
     is_some (finish_of p) ≡ false
 unfinished kind (payload.Byte byte) shown of = refl
 unfinished kind (payload.Frame frame) shown of = refl
-unfinished Uart (payload.Finish finish) shown of = absurd (cc)
-unfinished Can (payload.Finish finish) shown of = absurd (cc)
-unfinished Finisher (payload.Finish finish) shown of = absurd (cc)
+unfinished kind (payload.Finish finish) joins of =
+    absurd (false≢true (sym (ap (λ b. not (b && is_of_kind kind (payload.Finish finish))) joins
+    ∙ ap not of) ∙ each_kind (λ k. not ((row_of k).joins_hubs && is_of_kind k (payload.Finish finish))) refl kind))
 
 viewed :
     (o : Option View) (dev : ℕ) (kind : Kind) →

@@ -1,12 +1,14 @@
 -- What holds of a laboratory goes on to hold where it is changed.
 use Rattle.std.proofs.Common.{◌≡◌, ◌∙◌, sym, ap, refl, Bool, true, false, cond, ℕ, ◌+◌, ◌<◌, ◌≤◌, List, [], ◌∷◌, ◌++◌}
+use Rattle.std.proofs.Common.{◌*◌, ◌==◌}
 use Rattle.std.proofs.Common.{length, map, set, get_or, slice_get, Option, Some, None, add-zero, subst, arith, rules}
 use Rattle.std.specs.Prelude.{is_some, IsSome, IsTrue, option_and_then}
 use Rattle.std.specs.Option.{option_map}
 use Rattle.std.specs.List.{All}
 use Rattle.std.specs.Str.{bytes_eq}
 use Rattle.std.proofs.Math.Seq.{map-set_same}
-use Rattle.std.proofs.lemmas.Bool.{or_parts}
+use Rattle.std.proofs.lemmas.Bool.{eqb-true, leb-true, or_parts}
+use Rattle.std.proofs.lemmas.Nat.{row_fits}
 use Rattle.std.proofs.lemmas.Bool.Decides.{nat_tests}
 use Rattle.std.proofs.lemmas.Grind.{common_steps}
 use Rattle.std.proofs.lemmas.Simd.{map-map}
@@ -15,13 +17,15 @@ use Rattle.std.proofs.lemmas.List.Elements.{All-nil, All-weaker, All-push}
 use Rattle.std.proofs.lemmas.List.Sums.{sum_by_push, sum_by-set, count_by-le-length}
 use Rattle.std.proofs.lemmas.Option.{slice_get-get_or, slice_get-map, slice_get_past, slice_get_read, same_Some}
 use Rattle.lab_num.specs.declared.key.Member.{Member}
-use Rattle.dev_core.specs.declared.kind.Kind.TheVariants.{Uart, Can, Finisher}
+use Rattle.dev_core.specs.declared.kind.Kind.{Kind}
+use Rattle.dev_core.specs.Kind.{row_of}
+use Rattle.dev_core.proofs.KindLaws.{each_kind}
 use Rattle.board.specs.Changes.{with_speed}
 use Rattle.board.specs.New.{new_board, new_numbers}
 use Rattle.board.specs.Numbers.{Numbers}
 use Rattle.board.specs.View.{View}
 use Rattle.sys_bus.specs.declared.plan.BoardPlan.{BoardPlan}
-use Rattle.sys_bus.specs.Limits.{count_of}
+use Rattle.sys_bus.specs.Limits.{are_few_of, count_of}
 use Rattle.sys_bus.specs.Plan.{IsValid}
 use Rattle.lab_state.specs.Board.{Board}
 use Rattle.lab_num.specs.Change.{change_at}
@@ -34,7 +38,7 @@ use Rattle.lab_state.specs.Names.{is_taken}
 use Rattle.lab_state.specs.One.{view_at, view_of, kind_at, with_view, with_member}
 use Rattle.time_source.specs.Tree as tree
 use Rattle.time_source.specs.Tree.{Tree}
-use Rattle.lab_state.specs.Inner.Spares.{Spares, full, HasFor, AreTaken}
+use Rattle.lab_state.specs.Inner.Spares.{Spares, full, left_of, HasFor, AreTaken}
 use Rattle.lab_state.specs.Inner.Standing.{Outline, outline, outlines, kind_of_outline, kind_in, AreMembers, AreDevices}
 use Rattle.lab_state.specs.Inner.Standing.{count_of_plans, IsFormed, IsSound}
 use Rattle.lab_state.specs.Inner.Time.{number_of, numbers_of}
@@ -78,7 +82,7 @@ sound-new = record {
     devices = All-nil _;
     delays = All-nil _;
     names = search rules;
-    enough = search rules;
+    enough = record { few = λ kind. omega arith; left = λ kind. omega arith };
   };
   times = search rules;
   pending = none_pending [] 0;
@@ -306,20 +310,20 @@ module _ {lab : Lab} {spares : Spares} {source : Tree} (i : ℕ) {old : Board} (
 
 -- a plan has few devices, and a speed that a board may have
 record IsSmall (plan : BoardPlan) : Type 0 where
-  uarts : count_of plan.kinds Uart ≤ 4
-  cans : count_of plan.kinds Can ≤ 4
-  finishers : count_of plan.kinds Finisher ≤ 1
+  devices : (kind : Kind) → count_of plan.kinds kind ≤ (row_of kind).most
   least : 1 ≤ plan.speed
   most : plan.speed ≤ 1000
 
 small : (plan : BoardPlan) → IsValid plan → IsSmall plan
 small plan valid = record {
-  uarts = grind (arith, nat_tests, valid.few_devices);
-  cans = grind (arith, nat_tests, valid.few_devices);
-  finishers = grind (arith, nat_tests, valid.few_devices);
+  devices = λ kind. leb-true _ _ (each_kind (are_few_of plan.kinds) valid.few_devices kind);
   least = grind (arith, nat_tests, valid.speed);
   most = grind (arith, nat_tests, valid.speed);
 }
+
+-- a full stock has as many devices of a kind as sixteen boards may have
+full_is : (kind : Kind) → left_of full kind ≡ 16 * (row_of kind).most
+full_is kind = eqb-true _ _ (each_kind (λ kind. left_of full kind == 16 * (row_of kind).most) refl kind)
 
 -- a board that has no plan
 pub bare :
@@ -374,9 +378,14 @@ module _ {lab : Lab} {spares : Spares} {source : Tree} (i : ℕ) (plan : BoardPl
           )
 
       each : HasFor spares plan.kinds
-      each Uart = omega (arith, (small plan valid).uarts, sound.shape.enough.uarts, few)
-      each Can = omega (arith, (small plan valid).cans, sound.shape.enough.cans, few)
-      each Finisher = omega (arith, (small plan valid).finishers, sound.shape.enough.finishers, few)
+      each kind =
+          omega (
+            arith,
+            (small plan valid).devices kind,
+            sound.shape.enough.left kind,
+            full_is kind,
+            row_fits (count_of_plans os) (row_of kind).most 16 (row_of kind).most few (omega arith),
+          )
 
   pub sound-fit :
       (left : Spares) {old : Board} → old ≡ get_or lab.boards i old → AreTaken spares left plan.kinds →
@@ -401,9 +410,10 @@ module _ {lab : Lab} {spares : Spares} {source : Tree} (i : ℕ) (plan : BoardPl
                   rw (← map-set outline lab.boards i new, map-map, names) (rw map-map at sound.shape.names);
               enough = record {
                 few = λ kind. omega (arith, taken kind, sound.shape.enough.few kind);
-                uarts = omega (arith, taken Uart, is_small.uarts, plans, sound.shape.enough.uarts);
-                cans = omega (arith, taken Can, is_small.cans, plans, sound.shape.enough.cans);
-                finishers = omega (arith, taken Finisher, is_small.finishers, plans, sound.shape.enough.finishers);
+                left = λ kind.
+                    let more = row_fits (count_of_plans os) (row_of kind).most (count_of_plans (set os i o))
+                    (row_of kind).most (omega (arith, plans)) (omega arith) in
+                    omega (arith, taken kind, is_small.devices kind, more, sound.shape.enough.left kind);
               };
             });
         times = sound.times;

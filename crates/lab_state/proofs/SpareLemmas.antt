@@ -10,6 +10,7 @@ use Rattle.dev_core.specs.declared.kind.Kind.TheVariants.{Uart, Can, Finisher}
 use Rattle.dev_core.specs.declared.state.DevState.{DevState}
 use Rattle.dev_core.specs.Device.{kind_of}
 use Rattle.dev_core.specs.Kind.{is_kind}
+use Rattle.dev_core.proofs.KindLaws.{is_kind_itself, kind_of_reset}
 use Rattle.board.specs.New.{first_state}
 use Rattle.lab_state.specs.Inner.Spares.{Spares, left_of, kinds_of, HasFor, AreTaken}
 
@@ -36,14 +37,9 @@ still_left all now kinds i d has taken below =
       arith,
       has kind,
       taken kind,
-      count_by_more_yes (is_kind kind) kinds i d below (same kind),
+      count_by_more_yes (is_kind kind) kinds i d below (is_kind_itself kind),
       sum_by-take-le (λ k. cond (is_kind kind k) 1 0) kinds (i + 1),
     )
-  where
-    same : (kind : Kind) → is_kind kind kind ≡ true
-    same Uart = refl
-    same Can = refl
-    same Finisher = refl
 
 -- devices that were taken and are put back
 pub all_back :
@@ -52,15 +48,10 @@ all_back all left back kinds taken given =
     let same : (kind : Kind) → left_of back kind ≡ left_of all kind = λ kind. sym (given kind) ∙ taken kind in
     λ i. record { uarts = same Uart i; cans = same Can i; finishers = same Finisher i }
 
--- a device in its first state tells its kind
-kind_first : (kind : Kind) → kind_of (first_state kind) ≡ kind
-kind_first Uart = refl
-kind_first Can = refl
-kind_first Finisher = refl
-
+-- devices in their first states tell their kinds
 pub kinds_first : (kinds : List Kind) → kinds_of (map first_state kinds) ≡ kinds
 kinds_first [] = refl
-kinds_first (kind ∷ kinds) = λ i. kind_first kind i ∷ kinds_first kinds i
+kinds_first (kind ∷ kinds) = λ i. kind_of_reset kind i ∷ kinds_first kinds i
 
 pub all_first :
     {A : Type 0} (f : A → DevState) (xs : List A) (kinds : List Kind) → map f xs ≡ map first_state kinds →
@@ -74,4 +65,4 @@ all_first {A = A} f xs kinds is = All-from_recursion (λ x. f x ≡ first_state 
     each (x ∷ xs) [] is = absurd (cc)
     each (x ∷ xs) (kind ∷ kinds) is =
         let here : f x ≡ first_state kind = cc in
-        (rw (here, kind_first kind) refl, each xs kinds (cc))
+        (rw (here, kind_of_reset kind) refl, each xs kinds (cc))

@@ -23,9 +23,8 @@ use Rattle.dev_core.specs.declared.post.Entry.{Entry}
 use Rattle.dev_core.specs.declared.post.Post.{Post}
 use Rattle.dev_core.specs.declared.post.What.{What}
 use Rattle.dev_core.specs.declared.post.What.TheVariants as what
-use Rattle.dev_core.specs.declared.state.DevState.{DevState}
-use Rattle.dev_core.specs.declared.state.DevState.TheVariants as state
-use Rattle.dev_core.specs.Device.{dev_take, kind_of}
+use Rattle.dev_core.proofs.KindLaws.{kind_taken}
+use Rattle.dev_core.specs.Device.{dev_take, kind_of, no_device}
 use Rattle.dev_core.specs.Post.{entry_key, post_key}
 use Rattle.log_merge.specs.declared.item.LogItem.{LogItem}
 use Rattle.log_merge.specs.declared.item.LogItem.TheVariants as item
@@ -86,7 +85,7 @@ uart-same :
     w.space.devices →
     (dev : ℕ) → is_shown_uart v dev ≡ is_shown_uart w dev
 uart-same v w kinds shown dev =
-    let hidden : BoardDevice = record { state = state.Finisher; shown = false } in
+    let hidden : BoardDevice = record { state = no_device; shown = false } in
     let same_kind : kind_of (device_at v.space dev).state ≡ kind_of (device_at w.space dev).state =
     sym (get_or-map (λ (fitted : BoardDevice). kind_of fitted.state) v.space.devices dev hidden)
     ∙ ap (λ kinds. get_or kinds dev (kind_of hidden.state)) kinds
@@ -109,21 +108,15 @@ uarts-same f same board = λ i dev. one board.view dev i
     one None dev = refl
     one (Some v) dev = same v dev
 
--- a device keeps its kind where it is handed something
-take-kind : (state : DevState) (payload : Payload) → kind_of (dev_take state payload).after ≡ kind_of state
-take-kind (state.Uart u) payload = refl
-take-kind (state.Can c) payload = refl
-take-kind state.Finisher payload = refl
-
 handed-uart : (dev : ℕ) (payload : Payload) (v : View) (other : ℕ) →
     is_shown_uart (handed v dev payload) other ≡ is_shown_uart v other
 handed-uart dev payload v =
     let old = device_at v.space dev in
     let new : BoardDevice = record old { state = (dev_take old.state payload).after } in
-    let hidden : BoardDevice = record { state = state.Finisher; shown = false } in
+    let hidden : BoardDevice = record { state = no_device; shown = false } in
     uart-same (handed v dev payload) v
     (map-set_same (λ (fitted : BoardDevice). kind_of fitted.state) v.space.devices dev new hidden
-    (take-kind old.state payload))
+    (kind_taken old.state payload))
     (map-set_same (λ (fitted : BoardDevice). fitted.shown) v.space.devices dev new hidden refl)
 
 -- ---- what a round tells of

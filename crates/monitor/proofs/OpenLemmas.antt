@@ -16,9 +16,8 @@ use Rattle.lab_num.specs.Change.{change_at}
 use Rattle.log_text.specs.declared.line.OpenLine.{OpenLine}
 use Rattle.log_text.specs.Log.{open_lines}
 use Rattle.dev_core.specs.declared.kind.Kind.TheVariants.{Uart}
-use Rattle.dev_core.specs.declared.state.DevState.{DevState}
-use Rattle.dev_core.specs.declared.state.DevState.TheVariants as state
-use Rattle.dev_core.specs.Device.{dev_reset, kind_of}
+use Rattle.dev_core.proofs.KindLaws.{kind_of_reset}
+use Rattle.dev_core.specs.Device.{kind_of, no_device}
 use Rattle.elf_load.specs.declared.image.Image.{Image}
 use Rattle.elf_load.specs.declared.image.Part.{Part}
 use Rattle.elf_load.specs.Map.{contents}
@@ -65,7 +64,7 @@ use Rattle.monitor.proofs.RunLemmas.{no_longer}
 -- ---- which devices are shown UARTs
 
 abbrev nothing : BoardDevice
-nothing = hidden state.Finisher
+nothing = hidden no_device
 
 abbrev is_uart : BoardDevice → Bool
 is_uart fitted = fitted.shown && is_kind Uart (kind_of fitted.state)
@@ -163,16 +162,11 @@ entry_devices v None = refl
 entry_devices v (Some pc) = refl
 
 -- a reset, which leaves each device of its kind, and shown or not as it was
-reset_kind : (s : DevState) → kind_of (dev_reset s) ≡ kind_of s
-reset_kind (state.Uart u) = refl
-reset_kind (state.Can c) = refl
-reset_kind state.Finisher = refl
-
 reset_keeps : Keeps reset
 reset_keeps v dev is =
     let old = get_or v.space.devices dev nothing in
     ap is_uart (get_or-map reset_device v.space.devices dev nothing)
-    ∙ ap (λ kind. old.shown && is_kind Uart kind) (reset_kind old.state)
+    ∙ ap (λ kind. old.shown && is_kind Uart kind) (kind_of_reset (kind_of old.state))
     ∙ is
 
 -- a device that is shown

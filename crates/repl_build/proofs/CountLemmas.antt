@@ -3,19 +3,22 @@ use Rattle.std.proofs.Common.{◌≡◌, ℕ, ◌+◌, ◌<◌, ◌≤◌, ◌�
 use Rattle.std.proofs.Common.{Option, None, Some, nat_le, arith, append_assoc, if◌then◌else◌}
 use Rattle.std.proofs.lemmas.Bool.Decides.{nat_tests}
 use Rattle.std.proofs.lemmas.List.{append-nil}
-use Rattle.std.proofs.lemmas.Bool.{or_parts}
-use Rattle.dev_core.specs.declared.kind.Kind.TheVariants.{Uart, Can, Finisher}
+use Rattle.std.proofs.lemmas.Bool.{le-leb, or_parts}
+use Rattle.dev_core.proofs.KindLaws.{each_row, few_of_all}
+use Rattle.sys_bus.specs.Limits as limit
 use Rattle.repl_build.specs.declared.merge.Peripheral.{Peripheral}
 use Rattle.repl_build.specs.declared.rules.Rule.TheVariants.{Counts}
 use Rattle.repl_build.specs.declared.types.PeripheralType.{PeripheralType}
 use Rattle.repl_build.specs.declared.types.PeripheralType.TheVariants.{Memory, Device}
 use Rattle.repl_build.specs.Counts.{most_of, count_of, are_as_many_as_may_be, passes_memory, is_one_too_many}
 use Rattle.repl_build.specs.First.{first_fault}
-use Rattle.repl_build.specs.Numbers.{AreFew, devices_of, is_device}
+use Rattle.repl_build.specs.Numbers.{AreFew}
+use Rattle.repl_build.specs.Plan.{kinds_of}
 use Rattle.repl_build.specs.Rules.{peripheral_fault, broken}
 use Rattle.repl_build.specs.Types.{is_type}
-use Rattle.repl_build.proofs.ListLemmas.{count_cons, count_push}
+use Rattle.repl_build.proofs.ListLemmas.{count_push}
 use Rattle.repl_build.proofs.NoneLemmas.{first_none, unbroken}
+use Rattle.repl_build.proofs.PlanCounts.{devices_count, kinds_count}
 use Rattle.repl_build.proofs.TypeLemmas.{is_type_same}
 
 room : (before : List Peripheral) (k : PeripheralType) (o : Option PeripheralType) → o ≡ Some k →
@@ -54,33 +57,15 @@ counted all k before (x ∷ xs) few none =
 pub few_of : (all : List Peripheral) (k : PeripheralType) → broken Counts all ≡ None → count_of all k ≤ most_of k
 few_of all k none = counted all k [] all (omega arith) none
 
--- a device is of one of the kinds
-of_a_kind : (o : Option PeripheralType) (a b c : ℕ) →
-    (if is_device o then 1 else 0) + (a + b + c)
-    ≡ ((if is_type (Device Uart) o then 1 else 0) + a) + ((if is_type (Device Can) o then 1 else 0) + b)
-    + ((if is_type (Device Finisher) o then 1 else 0) + c)
-of_a_kind None a b c = omega arith
-of_a_kind (Some (Device Uart)) a b c = omega arith
-of_a_kind (Some (Device Can)) a b c = omega arith
-of_a_kind (Some (Device Finisher)) a b c = omega arith
-of_a_kind _ a b c = omega arith
-
-devices_by_kind : (all : List Peripheral) →
-    devices_of all ≡ count_of all (Device Uart) + count_of all (Device Can) + count_of all (Device Finisher)
-devices_by_kind [] = refl
-devices_by_kind (p ∷ ps) =
-    let rest = devices_by_kind ps in
-    let device = count_cons (λ q. is_device q.kind) p ps in
-    let uart = count_cons (λ q. is_type (Device Uart) q.kind) p ps in
-    let can = count_cons (λ q. is_type (Device Can) q.kind) p ps in
-    let finisher = count_cons (λ q. is_type (Device Finisher) q.kind) p ps in
-    let sum = of_a_kind p.kind (count_of ps (Device Uart)) (count_of ps (Device Can)) (count_of ps (Device Finisher)) in
-    omega (arith, rest, device, uart, can, finisher, sum)
+-- and so of each kind of device
+pub devices_few : (all : List Peripheral) → broken Counts all ≡ None → limit.are_few_devices (kinds_of all) ≡ true
+devices_few all none =
+    each_row (limit.are_few_of (kinds_of all))
+    (λ kind. le-leb _ _ (omega (arith, few_of all (Device kind) none, kinds_count kind all)))
 
 pub are_few : (all : List Peripheral) → broken Counts all ≡ None → AreFew all
 are_few all none =
-    let memories = few_of all Memory none in
-    let uarts = few_of all (Device Uart) none in
-    let cans = few_of all (Device Can) none in
-    let finishers = few_of all (Device Finisher) none in
-    (omega (arith, memories), omega (arith, devices_by_kind all, uarts, cans, finishers))
+    let memories = few_of all Memory none in (
+      omega (arith, memories),
+      omega (arith, devices_count all, few_of_all (kinds_of all) (devices_few all none)),
+    )

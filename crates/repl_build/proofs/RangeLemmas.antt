@@ -5,7 +5,7 @@ use Rattle.std.proofs.Common.{Option, None, Some, nat_le, cond, codes, slice_get
 use Rattle.std.specs.List.{list_all}
 use Rattle.std.proofs.lemmas.Bool.{and_parts, and_from}
 use Rattle.dev_core.specs.declared.kind.Kind.{Kind}
-use Rattle.dev_core.specs.declared.kind.Kind.TheVariants.{Uart, Can, Finisher}
+use Rattle.dev_core.proofs.KindLaws.{each_kind}
 use Rattle.dev_core.specs.Kind.{least_size_of, row_of}
 use Rattle.repl_read.specs.declared.entry.Place.{Place}
 use Rattle.repl_read.specs.declared.entry.Place.TheVariants.{Address, Range}
@@ -39,16 +39,15 @@ record IsPlaced (t : Option PeripheralType) (at : Place) (items : List PlacedIte
 
 -- the usual size of a device is whole words, and enough
 usual_unit : (kind : Kind) → ((row_of kind).usual_size % region_unit == 0) ≡ true
-usual_unit Uart = refl
-usual_unit Can = refl
-usual_unit Finisher = refl
+usual_unit = each_kind (λ kind. (row_of kind).usual_size % region_unit == 0) refl
 
-usual_enough : (kind : Kind) (wide : Bool) →
-    nat_le (least_size_of kind (cond {A = ℕ} ((row_of kind).may_be_wide && wide) 4 1)) (row_of kind).usual_size ≡ true
-usual_enough Uart true = refl
-usual_enough Uart false = refl
-usual_enough Can wide = refl
-usual_enough Finisher wide = refl
+abbrev is_enough : Bool → Kind → Bool
+is_enough wide kind =
+    nat_le (least_size_of kind (cond {A = ℕ} ((row_of kind).may_be_wide && wide) 4 1)) (row_of kind).usual_size
+
+usual_enough : (kind : Kind) (wide : Bool) → is_enough wide kind ≡ true
+usual_enough kind true = each_kind (is_enough true) refl kind
+usual_enough kind false = each_kind (is_enough false) refl kind
 
 ranged :
     (t : Option PeripheralType) (base size : ℕ) (items : List PlacedItem) →

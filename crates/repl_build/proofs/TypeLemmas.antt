@@ -1,18 +1,10 @@
 -- A peripheral's type.
 use Rattle.std.proofs.Common.{◌≡◌, true, refl, ap, Option, Some}
 use Rattle.dev_core.specs.declared.kind.Kind.{Kind}
-use Rattle.dev_core.specs.declared.kind.Kind.TheVariants.{Uart, Can, Finisher}
-use Rattle.dev_core.specs.Kind.{is_kind}
+use Rattle.dev_core.proofs.KindLaws.{is_kind_same}
 use Rattle.repl_build.specs.declared.types.PeripheralType.{PeripheralType}
 use Rattle.repl_build.specs.declared.types.PeripheralType.TheVariants.{Cpu, Memory, Clint, Plic, Device}
 use Rattle.repl_build.specs.Types.{is_type}
-
--- a kind that passes the test is the kind
-is_kind_same : (a b : Kind) → is_kind a b ≡ true → b ≡ a
-is_kind_same Uart Uart is = refl
-is_kind_same Can Can is = refl
-is_kind_same Finisher Finisher is = refl
-is_kind_same _ _ is = absurd (cc)
 
 -- a type that passes the test is the type
 pub is_type_same : (a : PeripheralType) (b : Option PeripheralType) → is_type a b ≡ true → b ≡ Some a

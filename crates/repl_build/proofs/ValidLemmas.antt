@@ -3,8 +3,6 @@ use Rattle.std.proofs.Common.{◌≡◌, ℕ, ◌≤◌, ◌∙◌, true, ◌&&�
 use Rattle.std.proofs.Common.{nat_le, length, sum, arith, [], IfOk, IsTrue}
 use Rattle.std.specs.Option.{option_map}
 use Rattle.std.proofs.lemmas.Bool.{and_from, le-leb}
-use Rattle.dev_core.specs.declared.kind.Kind.{Kind}
-use Rattle.dev_core.specs.declared.kind.Kind.TheVariants.{Uart, Can, Finisher}
 use Rattle.repl_read.specs.declared.entry.Entry.{Entry}
 use Rattle.repl_read.specs.declared.fault.PlatFault.{PlatFault}
 use Rattle.sys_bus.specs.Limits.{most_memory}
@@ -21,7 +19,7 @@ use Rattle.repl_build.specs.Processors.{cpus_of}
 use Rattle.repl_build.specs.Names.{are_named, repeated, untyped}
 use Rattle.repl_build.specs.Plan.{memories_of, kinds_of, clint_frequency, plic_size_of}
 use Rattle.repl_build.specs.Plan.{wires_of, plan_with, tested, built, Gives}
-use Rattle.repl_build.proofs.CountLemmas.{few_of}
+use Rattle.repl_build.proofs.CountLemmas.{devices_few, few_of}
 use Rattle.repl_build.proofs.NameLemmas.{names_good, differ, distinct, no_others, clint_there, plic_there}
 use Rattle.repl_build.proofs.NameLemmas.{found_type}
 use Rattle.repl_build.proofs.NumberLemmas.{IsBetween}
@@ -59,13 +57,6 @@ plic_good all (Some p) keeps found =
     let numbers = plic_numbers all p keeps found in
     and_from _ _ (and_from _ _ (within 1 127 _ numbers.0) (le-leb 1 _ numbers.1.0)) (le-leb _ 15 numbers.1.1)
 
-devices_few : (all : List Peripheral) → Keeps all → limit.are_few_devices (kinds_of all) ≡ true
-devices_few all keeps =
-    and_from _ _ (few Uart) (and_from _ _ (few Can) (and_from _ _ (few Finisher) refl))
-  where
-    few : (kind : Kind) → limit.are_few_of (kinds_of all) kind ≡ true
-    few kind = le-leb _ _ (omega (arith, few_of all (Device kind) keeps.counts, kinds_count kind all))
-
 memories_few : (all : List Peripheral) → Keeps all → has_type Memory all ≡ true →
     limit.are_few_memories (memories_of all) ≡ true
 memories_few all keeps there =
@@ -97,7 +88,7 @@ plan_valid entries wires good once keeps is =
       controller = found_type plic_size_of Plic all ∙ sym (plic_there [] all);
       memory_sizes = memory_sizes all sound;
       steps = steps all sound;
-      few_devices = devices_few all keeps;
+      few_devices = devices_few all keeps.counts;
       few_memories = memories_few all keeps there.1;
       few_processors = processors_few all keeps some;
       speed = rw (cpus_count all) (speed_good all sound some);

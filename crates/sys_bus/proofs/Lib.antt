@@ -1,5 +1,4 @@
 pub mod CountLemmas
-pub mod KindLemmas
 pub mod NameLemmas
 pub mod PlanLemmas
 pub mod RegionLemmas

@@ -6,15 +6,11 @@ use Rattle.std.specs.Int.{bit_at}
 use Rattle.std.proofs.lemmas.Bool.{false≢true}
 use Rattle.std.proofs.lemmas.Nat.Bits.{bit_at_above}
 use Rattle.clint.specs.declared.state.ClintState.{ClintState}
-use Rattle.dev_core.specs.declared.can_state.CanState.{CanState}
 use Rattle.dev_core.specs.declared.kind.Kind.{Kind}
-use Rattle.dev_core.specs.declared.kind.Kind.TheVariants as kind
 use Rattle.dev_core.specs.declared.state.DevState.{DevState}
-use Rattle.dev_core.specs.declared.state.DevState.TheVariants as device
-use Rattle.dev_core.specs.declared.uart_state.UartState.{UartState}
-use Rattle.dev_core.specs.Can.{IsCanState}
 use Rattle.dev_core.specs.Device.{IsValid}
-use Rattle.dev_core.specs.Uart.{IsUartState}
+use Rattle.dev_core.specs.Kind.{is_kind, no_kind}
+use Rattle.dev_core.proofs.KindLaws.{is_valid, kinds_decide, valid_decides}
 use Rattle.plic.specs.declared.state.PlicState.{PlicState}
 use Rattle.plic.specs.Sources.{AreSources, has, is_source}
 use Rattle.plic.specs.State.{AreEnables, ArePriorities, AreThresholds, IsPlicState}
@@ -108,27 +104,11 @@ plic_decided (Some size) None = fails (λ never. never)
 
 -- ---- devices
 
-uart_decided : (u : UartState) → Decided (IsUartState u)
-uart_decided u =
-    told_by (four (at_most _ _) (at_most _ _) (tested _) (at_most _ _))
-    (λ (a, b, c, d). record { ier = a; mcr = b; trigger = c; received = d })
-    (λ h. (h.ier, h.mcr, h.trigger, h.received))
-
-can_decided : (c : CanState) → Decided (IsCanState c)
-can_decided c =
-    told_by (three (at_most _ _) (same_number _ _) (at_most _ _))
-    (λ (a, b, c). record { control = a; divider = b; received = c }) (λ h. (h.control, h.divider, h.received))
-
 device_decided : (s : DevState) → Decided (IsValid s)
-device_decided (device.Uart u) = uart_decided u
-device_decided (device.Can c) = can_decided c
-device_decided device.Finisher = holds tt
+device_decided s = record { answer = is_valid s; decides = valid_decides s }
 
 pub same_kind : (a b : Kind) → Decided (a ≡ b)
-same_kind kind.Uart kind.Uart = holds refl
-same_kind kind.Can kind.Can = holds refl
-same_kind kind.Finisher kind.Finisher = holds refl
-same_kind a b = fails (λ e. absurd (cc))
+same_kind a b = record { answer = is_kind a b; decides = kinds_decide a b }
 
 not_past : (flags : List Bool) (dev : ℕ) → length flags ≤ dev → slice_index_or flags dev false ≡ true → ⊥
 not_past [] dev past on = false≢true on
@@ -136,11 +116,11 @@ not_past (flag ∷ flags) zero past on = absurd (omega (arith, past))
 not_past (flag ∷ flags) (suc dev) past on = not_past flags dev (omega (arith, past)) on
 
 shown_decided : (flags : List Bool) (kinds : List Kind) → Decided ((dev : ℕ) →
-    slice_index_or flags dev false ≡ true → IsTrue (is_shown_kind (slice_index_or kinds dev kind.Finisher)))
+    slice_index_or flags dev false ≡ true → IsTrue (is_shown_kind (slice_index_or kinds dev no_kind)))
 shown_decided flags kinds =
     each_number
     (λ dev. where_so (slice_index_or flags dev false)
-    (tested (is_shown_kind (slice_index_or kinds dev kind.Finisher))))
+    (tested (is_shown_kind (slice_index_or kinds dev no_kind))))
     (length flags) (λ dev past on. absurd (not_past flags dev past on))
 
 -- ---- all of it

@@ -60,13 +60,10 @@ pub record AreTimes (now quantum : ℕ) : Type 0 where
 abbrev pub count_of_plans : List Outline → ℕ
 count_of_plans boards = count_by (λ board. is_some board.kinds) boards
 
--- devices enough for those of 16 boards that have no plan: a plan has at most 4 UARTs, 4 CAN controllers and one
--- finisher
+-- devices enough for those of 16 boards that have no plan, as many of each kind as a plan may have
 pub record IsEnough (spares : Spares) (plans : ℕ) : Type 0 where
   pub few : (kind : Kind) → left_of spares kind ≤ left_of full kind
-  pub uarts : 64 ≤ spares.uarts + 4 * plans
-  pub cans : 64 ≤ spares.cans + 4 * plans
-  pub finishers : 16 ≤ spares.finishers + plans
+  pub left : (kind : Kind) → left_of full kind ≤ left_of spares kind + plans * (row_of kind).most
 
 -- names of their form
 abbrev pub AreFormed : List (List ℕ) → Type 0
