@@ -1,6 +1,12 @@
 //! A device of the program, each kind in a box of its own.
+ghost use Rattle.std.specs.Prelude.{◌≡◌, IfOk};
+ghost use Rattle.dev_core.specs.Device.{reset_of};
+ghost use Rattle.chips.specs.Chip.{state_of};
+
 use can_sja1000::Can;
 use dev_core::{DevState, Device, Effect, Kind, Payload, Taken};
+use lab_num::NoMemory;
+use std::alloc::Global;
 use test_finisher::Finisher;
 use uart_16550::Uart;
 
@@ -11,6 +17,19 @@ pub enum Chip {
     Uart(Box<Uart>),
     Can(Box<Can>),
     Finisher(Box<Finisher>),
+}
+
+impl Chip {
+    /// A device of a kind, in its reset state.
+    pub fn new(alloc: Global, kind: Kind) -> Result<Chip, NoMemory>
+        ensures { IfOk result (λ chip. state_of chip ≡ reset_of kind) }
+    {
+        match kind {
+            Kind::Uart => Ok(Chip::Uart(Box::new(alloc, Uart::new())?)),
+            Kind::Can => Ok(Chip::Can(Box::new(alloc, Can::new())?)),
+            Kind::Finisher => Ok(Chip::Finisher(Box::new(alloc, Finisher::new())?)),
+        }
+    }
 }
 
 impl Device for Chip {

@@ -120,17 +120,25 @@ sum_least f g (x ∷ xs) all =
     let parts = and_parts (nat_le (f x) (g x)) _ all in
     omega (arith, leb-true (f x) (g x) parts.0, sum_least f g xs parts.1, sum_by-cons f x xs, sum_by-cons g x xs)
 
--- where there are few of each kind, there are few
+-- so where there are no more of each kind, there are no more
+pub length_within :
+    (most : Kind → ℕ) (kinds : List Kind) → ((k : Kind) → count_by (is_kind k) kinds ≤ most k) →
+    length kinds ≤ sum_by (λ (row : Row). most row.kind) rows
+length_within most kinds few =
+    omega (
+      arith,
+      length_by_rows kinds,
+      sum_least (λ (row : Row). count_by (is_kind row.kind) kinds) (λ (row : Row). most row.kind) rows
+      (each_row (λ k. nat_le (count_by (is_kind k) kinds) (most k)) (λ k. le-leb _ _ (few k))),
+    )
+
 pub few_of_all :
     (kinds : List Kind) →
     list_all (λ (row : Row). nat_le (count_by (is_kind row.kind) kinds) (row_of row.kind).most) rows ≡ true →
     length kinds ≤ sum_by (λ (row : Row). (row_of row.kind).most) rows
 few_of_all kinds few =
-    omega (
-      arith,
-      length_by_rows kinds,
-      sum_least (λ (row : Row). count_by (is_kind row.kind) kinds) (λ (row : Row). (row_of row.kind).most) rows few,
-    )
+    length_within (λ k. (row_of k).most) kinds
+    (λ k. leb-true _ _ (each_kind (λ k. nat_le (count_by (is_kind k) kinds) (row_of k).most) few k))
 
 -- ---- resets
 

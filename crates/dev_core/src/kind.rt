@@ -2,6 +2,7 @@
 ghost use Rattle.std.specs.Prelude.{◌≡◌};
 ghost use Rattle.dev_core.specs.Kind as kind_spec;
 ghost use Rattle.dev_core.specs.Kind.{row_of};
+ghost use Rattle.dev_core.specs.Stock.{stock_of};
 
 use crate::payload::Payload;
 
@@ -150,6 +151,16 @@ impl Kind {
         match self {
             Kind::Uart | Kind::Can => 4,
             Kind::Finisher => 1,
+        }
+    }
+
+    /// How many devices of the kind a full stock has: enough for each of 16 boards.
+    pub fn in_stock(self) -> usize
+        ensures { result ≡ stock_of self }
+    {
+        match self {
+            Kind::Uart | Kind::Can => 64,
+            Kind::Finisher => 16,
         }
     }
 }

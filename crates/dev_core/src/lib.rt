@@ -26,5 +26,5 @@ pub use kind::{KINDS, Kind};
 pub use payload::{Effect, Finish, Payload, Taken};
 pub use post::{Entry, Post, What};
 pub use state::{DevState, is_valid_state};
-pub use stock::{STOCK_CANS, STOCK_FINISHERS, STOCK_UARTS, Stock};
+pub use stock::{Maker, Stock};
 pub use uart_state::UartState;

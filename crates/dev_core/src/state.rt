@@ -1,6 +1,6 @@
 //! The state of a device of any kind.
 ghost use Rattle.std.specs.Prelude.{◌≡◌, ◌↔◌, IsTrue};
-ghost use Rattle.dev_core.specs.Device.{kind_of, IsValid};
+ghost use Rattle.dev_core.specs.Device.{dev_reset, kind_of, IsValid};
 
 use crate::can_state::CanState;
 use crate::kind::Kind;
@@ -24,6 +24,17 @@ impl DevState {
             DevState::Uart(_) => Kind::Uart,
             DevState::Can(_) => Kind::Can,
             DevState::Finisher => Kind::Finisher,
+        }
+    }
+
+    /// Whether this is the reset state of its kind.
+    pub(crate) fn is_reset(&self) -> bool
+        ensures { IsTrue result ↔ (self.now ≡ dev_reset self.now) }
+    {
+        match self {
+            DevState::Uart(uart) => *uart == UartState::reset(),
+            DevState::Can(can) => *can == CanState::reset(),
+            DevState::Finisher => true,
         }
     }
 }

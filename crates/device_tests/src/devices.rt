@@ -14,11 +14,8 @@ fn refuses<D: Device>(device: &mut D, payload: &Payload, state: &DevState) -> bo
 
 /// Whether one finisher alone is a full stock.
 fn is_full_stock(alloc: Global, finisher: Box<dyn Device + Send>) -> Result<bool, AllocError> {
-    let stock = Stock {
-        uarts: Vec::new(alloc),
-        cans: Vec::new(alloc),
-        finishers: vec![in alloc; finisher]?,
-    };
+    let mut stock = Stock::new(alloc);
+    stock.finishers = vec![in alloc; finisher]?;
     Ok(stock.is_full())
 }
 

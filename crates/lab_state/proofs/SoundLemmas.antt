@@ -1,13 +1,13 @@
 -- What holds of a laboratory goes on to hold where it is changed.
 use Rattle.std.proofs.Common.{◌≡◌, ◌∙◌, sym, ap, refl, Bool, true, false, cond, ℕ, ◌+◌, ◌<◌, ◌≤◌, List, [], ◌∷◌, ◌++◌}
-use Rattle.std.proofs.Common.{◌*◌, ◌==◌}
+use Rattle.std.proofs.Common.{◌*◌}
 use Rattle.std.proofs.Common.{length, map, set, get_or, slice_get, Option, Some, None, add-zero, subst, arith, rules}
 use Rattle.std.specs.Prelude.{is_some, IsSome, IsTrue, option_and_then}
 use Rattle.std.specs.Option.{option_map}
 use Rattle.std.specs.List.{All}
 use Rattle.std.specs.Str.{bytes_eq}
 use Rattle.std.proofs.Math.Seq.{map-set_same}
-use Rattle.std.proofs.lemmas.Bool.{eqb-true, leb-true, or_parts}
+use Rattle.std.proofs.lemmas.Bool.{leb-true, or_parts}
 use Rattle.std.proofs.lemmas.Nat.{row_fits}
 use Rattle.std.proofs.lemmas.Bool.Decides.{nat_tests}
 use Rattle.std.proofs.lemmas.Grind.{common_steps}
@@ -321,10 +321,6 @@ small plan valid = record {
   most = grind (arith, nat_tests, valid.speed);
 }
 
--- a full stock has as many devices of a kind as sixteen boards may have
-full_is : (kind : Kind) → left_of full kind ≡ 16 * (row_of kind).most
-full_is kind = eqb-true _ _ (each_kind (λ kind. left_of full kind == 16 * (row_of kind).most) refl kind)
-
 -- a board that has no plan
 pub bare :
     {lab now : Lab} {planned : Bool} (i : ℕ) → lab ≡ now → planned ≡ is_some (view_of now i) → planned ≡ false →
@@ -383,7 +379,6 @@ module _ {lab : Lab} {spares : Spares} {source : Tree} (i : ℕ) (plan : BoardPl
             arith,
             (small plan valid).devices kind,
             sound.shape.enough.left kind,
-            full_is kind,
             row_fits (count_of_plans os) (row_of kind).most 16 (row_of kind).most few (omega arith),
           )
 

@@ -6,26 +6,12 @@ use Rattle.std.proofs.lemmas.List.Elements.{All-from_recursion}
 use Rattle.std.proofs.lemmas.List.Sums.{count_by_more_yes, sum_by-take-le}
 use Rattle.std.specs.List.{All, AllByRecursion}
 use Rattle.dev_core.specs.declared.kind.Kind.{Kind}
-use Rattle.dev_core.specs.declared.kind.Kind.TheVariants.{Uart, Can, Finisher}
 use Rattle.dev_core.specs.declared.state.DevState.{DevState}
 use Rattle.dev_core.specs.Device.{kind_of}
 use Rattle.dev_core.specs.Kind.{is_kind}
 use Rattle.dev_core.proofs.KindLaws.{is_kind_itself, kind_of_reset}
 use Rattle.board.specs.New.{first_state}
 use Rattle.lab_state.specs.Inner.Spares.{Spares, left_of, kinds_of, HasFor, AreTaken}
-
--- items that are all seen as one thing
-pub seen_as :
-    {A B : Type 0} (f : A → B) (n : ℕ) (xs : List A) (b : B) → map f xs ≡ replicate n b →
-    AllByRecursion (λ x. f x ≡ b) xs
-seen_as f n [] b is = tt
-seen_as f zero (x ∷ xs) b is = absurd (cc)
-seen_as f (suc n) (x ∷ xs) b is = (cc, seen_as f n xs b (cc))
-
--- a list that is seen as so many items is so long
-pub seen_long : {A B : Type 0} (f : A → B) (n : ℕ) (xs : List A) (b : B) → map f xs ≡ replicate n b → length xs ≡ n
-seen_long f n xs b is =
-    sym (length-map xs f) ∙ ap length is ∙ length-replicate n b
 
 -- there is a device for the kind that comes next
 pub still_left :
@@ -46,7 +32,7 @@ pub all_back :
     (all left back : Spares) (kinds : List Kind) → AreTaken all left kinds → AreTaken back left kinds → back ≡ all
 all_back all left back kinds taken given =
     let same : (kind : Kind) → left_of back kind ≡ left_of all kind = λ kind. sym (given kind) ∙ taken kind in
-    λ i. record { uarts = same Uart i; cans = same Can i; finishers = same Finisher i }
+    λ i. record { left = λ kind. same kind i }
 
 -- devices in their first states tell their kinds
 pub kinds_first : (kinds : List Kind) → kinds_of (map first_state kinds) ≡ kinds

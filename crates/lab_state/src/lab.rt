@@ -84,7 +84,7 @@ impl<D: Device> Lab<D> {
             boards: Vec::new(alloc),
             hubs: HubList::new(alloc),
             pending: Vec::new(alloc),
-            spares: Spares::of(stock),
+            spares: Spares::of(stock)?,
             source: Source::new(),
             quantum: QUANTUM,
             spent: false,

@@ -1,7 +1,7 @@
 //! The devices that no board has yet.
-ghost use Rattle.std.specs.Prelude.{◌≡◌, ◌<◌, [], ◌∷◌, map, All, OnErr, IfOk, OnOk};
+ghost use Rattle.std.specs.Prelude.{◌≡◌, ◌<◌, [], ◌∷◌, length, map, slice_index_or, All, OnErr, IfOk, IfNone, IfSome, OnOk};
 ghost use Rattle.dev_core.specs.Device.{kind_of};
-ghost use Rattle.dev_core.specs.Stock.{IsFull};
+ghost use Rattle.dev_core.specs.Stock.{IsFull, count_in};
 ghost use Rattle.board.specs.New.{first_state};
 ghost use Rattle.lab_state.specs.Inner.Spares.{left_of, full, kinds_of, HasFor, HasRoomFor, AreTaken};
 
@@ -12,50 +12,55 @@ use std::collections::VecDeque;
 use std::marker::Model;
 
 /// The devices that no board has yet, each in its reset state. Contracts see how many there are of
-/// each kind. They are taken from the front.
+/// each kind. The first of its kind is taken first.
 #[derive(Drop)]
 pub struct Spares<D: Device> {
-    uarts: VecDeque<D>,
-    cans: VecDeque<D>,
-    finishers: VecDeque<D>,
+    devices: VecDeque<D>,
 }
 
 impl<D: Device> Model for Spares<D> {
-    ghost use Rattle.std.specs.Prelude.{◌≡◌, ◌≤◌, length};
-    ghost use Rattle.std.specs.List.{AllByRecursion};
+    ghost use Rattle.std.specs.Prelude.{◌≡◌, ◌≤◌, All};
+    ghost use Rattle.std.specs.List.{sum_by};
     ghost use Rattle.std.specs.VecDeque.{deque_capacity};
-    ghost use Rattle.dev_core.specs.declared.kind.Kind.TheVariants.{Uart, Can, Finisher};
-    ghost use Rattle.board.specs.New.{first_state};
-    ghost use Rattle.lab_state.specs.Inner.Spares.{Spares as Seen, full};
+    ghost use Rattle.dev_core.specs.Device.{dev_reset};
+    ghost use Rattle.dev_core.specs.Kind.{Row, rows};
+    ghost use Rattle.dev_core.specs.Stock.{count_in, stock_of};
+    ghost use Rattle.lab_state.specs.Inner.Spares.{Spares as Seen};
 
     ghost Value = { Seen };
 
-    ghost view = { λ s. record {
-      uarts = length s.uarts.items;
-      cans = length s.cans.items;
-      finishers = length s.finishers.items;
-    } };
+    ghost view = { λ s. record { left = count_in D.meaning s.devices.items } };
 
     ghost invariant = { λ s.
-        AllByRecursion (λ d. D.meaning d ≡ first_state Uart) s.uarts.items
-        × AllByRecursion (λ d. D.meaning d ≡ first_state Can) s.cans.items
-        × AllByRecursion (λ d. D.meaning d ≡ first_state Finisher) s.finishers.items
-        × (full.uarts ≤ deque_capacity s.uarts)
-        × (full.cans ≤ deque_capacity s.cans)
-        × (full.finishers ≤ deque_capacity s.finishers) };
+        All (λ d. D.meaning d ≡ dev_reset (D.meaning d)) s.devices.items
+        × (sum_by (λ (row : Row). stock_of row.kind) rows ≤ deque_capacity s.devices) };
+}
+
+/// The place of the first device of a kind.
+fn place_of<D: Device>(devices: &VecDeque<D>, kind: Kind) -> Option<usize>
+    ensures some { IfSome result (λ place. place < length devices.now.items) }
+    ensures kind { IfSome result (λ place. (d : D) →
+        kind_of (D.meaning (slice_index_or devices.now.items place d)) ≡ kind) }
+    ensures none { IfNone result (count_in D.meaning devices.now.items kind ≡ 0) }
+{
+    for place in 0..devices.len() {
+        if devices[place].kind().is(kind) {
+            return Some(place);
+        }
+    }
+    None
 }
 
 impl<D: Device> Spares<D> {
     /// The devices of a full stock.
-    pub fn of(stock: Stock<D>) -> Spares<D>
+    pub fn of(stock: Stock<D>) -> Result<Spares<D>, NoMemory>
         requires { IsFull D.meaning stock }
-        ensures { result ≡ full }
+        ensures { IfOk result (λ spares. spares ≡ full) }
     {
-        Spares {
-            uarts: VecDeque::from(stock.uarts),
-            cans: VecDeque::from(stock.cans),
-            finishers: VecDeque::from(stock.finishers),
-        }
+        let devices = stock.into_devices()?;
+        Ok(Spares {
+            devices: VecDeque::from(devices),
+        })
     }
 
     /// Takes the next device of a kind.
@@ -64,11 +69,8 @@ impl<D: Device> Spares<D> {
         ensures device { D.meaning result ≡ first_state kind }
         ensures left { AreTaken self.old self.new (kind ∷ []) }
     {
-        match kind {
-            Kind::Uart => self.uarts.pop_front().unwrap(),
-            Kind::Can => self.cans.pop_front().unwrap(),
-            Kind::Finisher => self.finishers.pop_front().unwrap(),
-        }
+        let place = place_of(&self.devices, kind).unwrap();
+        self.devices.remove(place).unwrap()
     }
 
     /// Takes devices of these kinds, in their order. After an `Err` none is taken.
@@ -87,17 +89,13 @@ impl<D: Device> Spares<D> {
         Ok(devices)
     }
 
-    /// Puts a device back, before all others of its kind.
+    /// Puts a device back, before all others.
     fn put_back(&mut self, device: D)
         requires reset { D.meaning device ≡ first_state (kind_of (D.meaning device)) }
         requires room { HasRoomFor self.old (kind_of (D.meaning device) ∷ []) }
         ensures { AreTaken self.new self.old (kind_of (D.meaning device) ∷ []) }
     {
-        match device.kind() {
-            Kind::Uart => self.uarts.push_front_reserved(device),
-            Kind::Can => self.cans.push_front_reserved(device),
-            Kind::Finisher => self.finishers.push_front_reserved(device),
-        }
+        self.devices.push_front_reserved(device);
     }
 
     /// Puts back the devices that were taken last, which are given in the order in which they were

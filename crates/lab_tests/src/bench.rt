@@ -1,6 +1,6 @@
 //! Runs of the program over files, an output and a store in memory.
-use can_sja1000::Can;
-use dev_core::{Device, Stock};
+use chips::Chip;
+use dev_core::{Device, Kind, Maker, Stock};
 use floor_run::Gate;
 use lab_io::{MemFiles, MemSink, MemStore};
 use lab_num::NoMemory;
@@ -9,8 +9,6 @@ use probe_jobs::Unwatched;
 use std::alloc::Global;
 use std::sync::Wait;
 use std::thread::Threads;
-use test_finisher::Finisher;
-use uart_16550::Uart;
 
 /// 64 KiB of memory, a UART and a processor of one instruction a microsecond.
 const PLATFORM: &[u8] = b"\
@@ -67,6 +65,19 @@ pub fn words_of(alloc: Global, words: &[&str]) -> Result<Vec<String>, NoMemory> 
     Ok(list)
 }
 
+/// Makes devices in boxes.
+struct Boxes {
+    alloc: Global,
+}
+
+impl Maker for Boxes {
+    type Made = Box<dyn Device + Send>;
+
+    fn make(&mut self, kind: Kind) -> Result<Box<dyn Device + Send>, NoMemory> {
+        Ok(Box::new(self.alloc, Chip::new(self.alloc, kind)?)?)
+    }
+}
+
 /// A run by these words on the devices of a full stock: how it ends.
 fn run_on<R: Threads + Wait + Copy + Send + Sync, D: Device + Send, G: Gate>(
     rt: &R,
@@ -96,22 +107,6 @@ pub fn run<R: Threads + Wait + Copy + Send + Sync, G: Gate>(
     store: &mut MemStore,
     gate: &G,
 ) -> Result<Status, NoMemory> {
-    let mut uarts: Vec<Box<dyn Device + Send>> = Vec::new(alloc);
-    for _ in 0..64 {
-        uarts.push(Box::new(alloc, Uart::new())?)?;
-    }
-    let mut cans: Vec<Box<dyn Device + Send>> = Vec::new(alloc);
-    for _ in 0..64 {
-        cans.push(Box::new(alloc, Can::new())?)?;
-    }
-    let mut finishers: Vec<Box<dyn Device + Send>> = Vec::new(alloc);
-    for _ in 0..16 {
-        finishers.push(Box::new(alloc, Finisher::new())?)?;
-    }
-    let stock = Stock {
-        uarts,
-        cans,
-        finishers,
-    };
+    let stock = Stock::full(alloc, &mut Boxes { alloc })?;
     run_on(rt, alloc, words, files, out, store, stock, gate)
 }

@@ -1,21 +1,17 @@
 -- The devices that no board has yet.
 use Rattle.std.specs.Prelude.{◌≡◌, ℕ, ◌+◌, ◌≤◌, List, map}
 use Rattle.dev_core.specs.declared.kind.Kind.{Kind}
-use Rattle.dev_core.specs.declared.kind.Kind.TheVariants.{Uart, Can, Finisher}
 use Rattle.dev_core.specs.declared.state.DevState.{DevState}
 use Rattle.dev_core.specs.Device.{kind_of}
+use Rattle.dev_core.specs.Stock.{stock_of}
 use Rattle.sys_bus.specs.Limits.{count_of}
 
 -- how many there are of each kind
 pub record Spares : Type 0 where
-  pub uarts : ℕ
-  pub cans : ℕ
-  pub finishers : ℕ
+  pub left : Kind → ℕ
 
 abbrev pub left_of : Spares → Kind → ℕ
-left_of s Uart = s.uarts
-left_of s Can = s.cans
-left_of s Finisher = s.finishers
+left_of s kind = s.left kind
 
 -- devices enough of these kinds
 abbrev pub HasFor : Spares → List Kind → Type 0
@@ -27,7 +23,7 @@ AreTaken all left kinds = (kind : Kind) → left_of left kind + count_of kinds k
 
 -- how many there are in a full stock
 abbrev pub full : Spares
-full = record { uarts = 64; cans = 64; finishers = 16 }
+full = record { left = stock_of }
 
 -- the kinds of devices in these states
 abbrev pub kinds_of : List DevState → List Kind

@@ -1,12 +1,10 @@
 //! Devices that count how often they are called, and may wait for each other then.
-use can_sja1000::Can;
-use dev_core::{DevState, Device, Effect, Kind, Payload, Stock, Taken};
+use chips::Chip;
+use dev_core::{DevState, Device, Effect, Kind, Maker, Payload, Stock, Taken};
 use lab_num::NoMemory;
 use sample_boards::Meeting;
 use std::alloc::Global;
 use std::sync::atomic::{AtomicU32, Ordering};
-use test_finisher::Finisher;
-use uart_16550::Uart;
 
 /// A device that counts its loads and stores, and comes to a meeting with each.
 #[derive(Drop)]
@@ -61,9 +59,6 @@ impl<'a, D: Device> Device for Counted<'a, D> {
     }
 }
 
-/// A device of a stock.
-pub type Chip<'a> = Counted<'a, Box<dyn Device + Send>>;
-
 /// The calls of the devices of a stock.
 #[derive(Drop)]
 pub struct Counts {
@@ -84,55 +79,54 @@ impl Counts {
     }
 }
 
-fn device(alloc: Global, kind: Kind) -> Result<Box<dyn Device + Send>, NoMemory> {
-    match kind {
-        Kind::Uart => Ok(Box::new(alloc, Uart::new())?),
-        Kind::Can => Ok(Box::new(alloc, Can::new())?),
-        Kind::Finisher => Ok(Box::new(alloc, Finisher::new())?),
+/// Makes devices that count their calls.
+struct Chips<'a> {
+    alloc: Global,
+    counts: &'a Counts,
+
+    /// How many UARTs it has made, up to two.
+    uarts: u8,
+}
+
+impl<'a> Chips<'a> {
+    /// Where the calls of the next device of a kind are counted.
+    fn calls(&mut self, kind: Kind) -> &'a AtomicU32 {
+        match (kind, self.uarts) {
+            (Kind::Uart, 0) => {
+                self.uarts = 1;
+                &self.counts.calls[0]
+            }
+            (Kind::Uart, 1) => {
+                self.uarts = 2;
+                &self.counts.calls[1]
+            }
+            _ => &self.counts.calls[2],
+        }
     }
 }
 
-/// Adds so many devices of a kind.
-fn add<'a>(
-    chips: &mut Vec<Chip<'a>>,
-    alloc: Global,
-    kind: Kind,
-    number: u8,
-    counts: &'a Counts,
-) -> Result<(), NoMemory> {
-    for n in 0..number {
-        let calls = match (kind, n) {
-            (Kind::Uart, 0) => &counts.calls[0],
-            (Kind::Uart, 1) => &counts.calls[1],
-            _ => &counts.calls[2],
-        };
-        let device = device(alloc, kind)?;
-        chips.push(Counted {
+impl<'a> Maker for Chips<'a> {
+    type Made = Counted<'a, Box<dyn Device + Send>>;
+
+    fn make(&mut self, kind: Kind) -> Result<Counted<'a, Box<dyn Device + Send>>, NoMemory> {
+        let device: Box<dyn Device + Send> = Box::new(self.alloc, Chip::new(self.alloc, kind)?)?;
+        Ok(Counted {
             device,
-            calls,
-            meeting: &counts.meeting,
-        })?;
+            calls: self.calls(kind),
+            meeting: &self.counts.meeting,
+        })
     }
-    Ok(())
-}
-
-fn fill<'a>(
-    stock: &mut Stock<Chip<'a>>,
-    alloc: Global,
-    counts: &'a Counts,
-) -> Result<(), NoMemory> {
-    add(&mut stock.uarts, alloc, Kind::Uart, 64, counts)?;
-    add(&mut stock.cans, alloc, Kind::Can, 64, counts)?;
-    add(&mut stock.finishers, alloc, Kind::Finisher, 16, counts)
 }
 
 /// The devices of a full stock.
-pub fn stock(alloc: Global, counts: &Counts) -> Result<Stock<Chip<'_>>, NoMemory> {
-    let mut stock = Stock {
-        uarts: Vec::new(alloc),
-        cans: Vec::new(alloc),
-        finishers: Vec::new(alloc),
+pub fn stock(
+    alloc: Global,
+    counts: &Counts,
+) -> Result<Stock<Counted<'_, Box<dyn Device + Send>>>, NoMemory> {
+    let mut chips = Chips {
+        alloc,
+        counts,
+        uarts: 0,
     };
-    fill(&mut stock, alloc, counts)?;
-    Ok(stock)
+    Stock::full(alloc, &mut chips)
 }
