@@ -62,7 +62,7 @@ impl<D: Device> Model for Board<D> {
 
 impl<D: Device> Board<D> {
     ghost use Rattle.dev_core.specs.Device.{kind_of, IsValid as IsValidState};
-    ghost use Rattle.dev_core.specs.declared.kind.Kind.TheVariants.{Finisher};
+    ghost use Rattle.dev_core.specs.Kind.{no_kind};
     ghost use Rattle.sys_bus.specs.Plan.{IsValid};
     ghost use Rattle.board_space.specs.New.{first_states};
     ghost use Rattle.board.specs.New.{new_board, reset};
@@ -114,7 +114,7 @@ impl<D: Device> Board<D> {
         ensures count { length self.now.view.space.devices ≡ length result.now.kinds }
         ensures kind { (dev : ℕ) → dev < length result.now.kinds →
             kind_of (device_at self.now.view.space dev).state
-            ≡ slice_index_or result.now.kinds dev Finisher }
+            ≡ slice_index_or result.now.kinds dev no_kind }
         ensures sizes { map length self.now.view.space.memories ≡ result.now.memories }
         ensures harts { length self.now.view.cores ≡ length result.now.cpus }
         ensures next { self.now.view.next < length result.now.cpus }

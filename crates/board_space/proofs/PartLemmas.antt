@@ -8,9 +8,9 @@ use Rattle.std.proofs.lemmas.List.{ext_get_or, get_or-map, get_or_past, length-m
 use Rattle.std.proofs.lemmas.List.Elements.{All-get_or, All-from_get_or}
 use Rattle.std.proofs.lemmas.List.FromFn.{get_or-range_with_len, length-range_with_len}
 use Rattle.dev_core.specs.declared.kind.Kind.{Kind}
-use Rattle.dev_core.specs.declared.kind.Kind.TheVariants as kind
 use Rattle.dev_core.specs.declared.state.DevState.{DevState}
 use Rattle.dev_core.specs.Device.{kind_of, IsValid as IsValidState}
+use Rattle.dev_core.specs.Kind.{no_kind}
 use Rattle.rv_hart.specs.declared.letters.Letters.{Letters}
 use Rattle.rv_hart.specs.declared.state.HartState.{HartState}
 use Rattle.rv_hart.specs.HartState.{IsHartState}
@@ -82,7 +82,7 @@ devices_are ks devices d e many each = record {
 
 pub shown_are :
     (ks : List Kind) (flags : List Bool) → length flags ≡ length ks →
-    ((k : ℕ) → k < length flags → MayBeShown (slice_index_or ks k kind.Finisher) (slice_index_or flags k false)) →
+    ((k : ℕ) → k < length flags → MayBeShown (slice_index_or ks k no_kind) (slice_index_or flags k false)) →
     AreShown ks flags
 shown_are ks flags many each = record {
   count = many;

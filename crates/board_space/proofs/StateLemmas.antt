@@ -7,10 +7,9 @@ use Rattle.std.proofs.lemmas.List.Elements.{All-get_or}
 use Rattle.clint.specs.declared.state.ClintState.{ClintState}
 use Rattle.clint.specs.Clint.{Timer}
 use Rattle.dev_core.specs.declared.kind.Kind.{Kind}
-use Rattle.dev_core.specs.declared.kind.Kind.TheVariants as kind
 use Rattle.dev_core.specs.declared.state.DevState.{DevState}
-use Rattle.dev_core.specs.declared.state.DevState.TheVariants.{Finisher}
-use Rattle.dev_core.specs.Device.{kind_of, IsValid as IsValidState}
+use Rattle.dev_core.specs.Device.{kind_of, no_device, IsValid as IsValidState}
+use Rattle.dev_core.specs.Kind.{no_kind}
 use Rattle.plic.specs.declared.state.PlicState.{PlicState}
 use Rattle.plic.specs.State.{Controller}
 use Rattle.sys_bus.specs.declared.plan.BoardPlan.{BoardPlan}
@@ -150,13 +149,13 @@ pub shown_fits :
     (kinds : List Kind) (ds : List BoardDevice) → map (λ f. kind_of f.state) ds ≡ kinds →
     All (λ f. MayBeShown (kind_of f.state) f.shown) ds → AreShown kinds (map (λ f. f.shown) ds)
 shown_fits kinds ds same all =
-    let d : BoardDevice = hidden Finisher in
+    let d : BoardDevice = hidden no_device in
     let count = length-map ds (λ (f : BoardDevice). f.shown) in
     shown_are kinds (map (λ f. f.shown) ds)
     (count ∙ sym (length-map ds (λ (f : BoardDevice). kind_of f.state)) ∙ ap length same)
     (λ k there.
     let within : k < length ds = omega (arith, there, count) in
-    let kind_is = get_or-map (λ (f : BoardDevice). kind_of f.state) ds k d kind.Finisher within in
+    let kind_is = get_or-map (λ (f : BoardDevice). kind_of f.state) ds k d no_kind within in
     let shown_is = get_or-map (λ (f : BoardDevice). f.shown) ds k d false within in
     rw (← same, kind_is, shown_is)
     (All-get_or (λ f. MayBeShown (kind_of f.state) f.shown) ds k d within all))
@@ -179,7 +178,7 @@ device_in :
     (states : List DevState) (shown : List Bool) (k : ℕ) (d : BoardDevice) → length shown ≡ length states →
     k < length states →
     slice_index_or (devices_in states shown) k d
-    ≡ record { state = slice_index_or states k Finisher; shown = slice_index_or shown k false }
+    ≡ record { state = slice_index_or states k no_device; shown = slice_index_or shown k false }
 device_in [] shown k d same within = absurd (omega (arith, within))
 device_in (state ∷ states) [] k d same within = absurd (cc)
 device_in (state ∷ states) (flag ∷ shown) zero d same within = refl
@@ -192,7 +191,7 @@ pub all_in :
     length devices ≡ length states →
     ((k : ℕ) → k < length devices →
     slice_index_or devices k d
-    ≡ record { state = slice_index_or states k Finisher; shown = slice_index_or shown k false }) →
+    ≡ record { state = slice_index_or states k no_device; shown = slice_index_or shown k false }) →
     devices ≡ devices_in states shown
 all_in devices states shown d same many each =
     let count : length (devices_in states shown) ≡ length states =

@@ -2,7 +2,7 @@
 use Rattle.std.specs.Prelude.{◌≡◌, ℕ, ◌<◌, Bool, true, false, List, length, map, slice_index_or, All, IsTrue}
 use Rattle.std.specs.List.{range_with_len}
 use Rattle.dev_core.specs.declared.kind.Kind.{Kind}
-use Rattle.dev_core.specs.declared.kind.Kind.TheVariants.{Finisher}
+use Rattle.dev_core.specs.Kind.{no_kind}
 use Rattle.dev_core.specs.declared.state.DevState.{DevState}
 use Rattle.dev_core.specs.Device.{kind_of, IsValid as IsValidState}
 use Rattle.rv_hart.specs.declared.letters.Letters.{Letters}
@@ -44,7 +44,7 @@ MayBeShown kind shown = shown ≡ true → IsTrue (is_shown_kind kind)
 pub record AreShown (ks : List Kind) (flags : List Bool) : Type 0 where
   pub count : length flags ≡ length ks
   pub kinds : (dev : ℕ) → slice_index_or flags dev false ≡ true →
-      IsTrue (is_shown_kind (slice_index_or ks dev Finisher))
+      IsTrue (is_shown_kind (slice_index_or ks dev no_kind))
 
 -- ---- the same of the parts of a board's state
 

@@ -3,7 +3,7 @@ use Rattle.std.specs.Prelude.{◌≡◌, ℕ, ◌%◌, ◌<◌, true, false, len
 use Rattle.std.specs.Prelude.{Option, None, Some}
 use Rattle.std.specs.List.{range_with_len}
 use Rattle.clint.specs.declared.state.ClintState.{ClintState}
-use Rattle.dev_core.specs.declared.kind.Kind.TheVariants.{Finisher}
+use Rattle.dev_core.specs.Kind.{no_kind}
 use Rattle.dev_core.specs.Device.{kind_of, IsValid as IsValidState}
 use Rattle.plic.specs.declared.state.PlicState.{PlicState}
 use Rattle.plic.specs.State.{IsPlicState}
@@ -59,4 +59,4 @@ pub record IsStateFor (plan : BoardPlan) (s : BoardState) : Type 0 where
   pub states : All IsValidState s.devices
   pub flags : length s.shown ≡ length plan.kinds
   pub shown : (dev : ℕ) → slice_index_or s.shown dev false ≡ true →
-      IsTrue (is_shown_kind (slice_index_or plan.kinds dev Finisher))
+      IsTrue (is_shown_kind (slice_index_or plan.kinds dev no_kind))

@@ -4,8 +4,7 @@ use Rattle.std.specs.Prelude.{Option, None, Some, option_map, slice_get, slice_i
 use Rattle.std.proofs.lemmas.List.{length-map}
 use Rattle.clint.specs.declared.state.ClintState.{ClintState}
 use Rattle.dev_core.specs.declared.state.DevState.{DevState}
-use Rattle.dev_core.specs.declared.state.DevState.TheVariants.{Finisher}
-use Rattle.dev_core.specs.Device.{kind_of}
+use Rattle.dev_core.specs.Device.{kind_of, no_device}
 use Rattle.plic.specs.declared.state.PlicState.{PlicState}
 use Rattle.sys_bus.specs.declared.plan.PlicSize.{PlicSize}
 use Rattle.board.specs.BoardState.{board_state, controller_to, devices_in, timer_to}
@@ -72,8 +71,8 @@ board_loaded number m sound fits = record {
 
 -- what shows that a device is a UART which is shown
 pub shown_there : (states : List DevState) (shown : List Bool) (dev : ℕ) →
-    ((slice_index_or (devices_in states shown) dev (record { state = Finisher; shown = false })).shown
-    && is_uart (slice_index_or (devices_in states shown) dev (record { state = Finisher; shown = false })).state)
+    ((slice_index_or (devices_in states shown) dev (record { state = no_device; shown = false })).shown
+    && is_uart (slice_index_or (devices_in states shown) dev (record { state = no_device; shown = false })).state)
     ≡ shown_uart (slice_get states dev) (slice_get shown dev)
 shown_there [] shown dev = refl
 shown_there (state ∷ states) [] zero = refl

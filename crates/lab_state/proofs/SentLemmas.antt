@@ -14,8 +14,7 @@ use Rattle.lab_num.specs.Numbered.{AreNumbered}
 use Rattle.lab_num.specs.Paid.{paid}
 use Rattle.lab_num.proofs.ListLemmas.{All-unmap}
 use Rattle.dev_core.specs.declared.post.Post.{Post}
-use Rattle.dev_core.specs.declared.state.DevState.TheVariants.{Finisher}
-use Rattle.dev_core.specs.Device.{kind_of}
+use Rattle.dev_core.specs.Device.{kind_of, no_device}
 use Rattle.dev_core.specs.Post.{post_key}
 use Rattle.board.specs.Numbers.{Numbers}
 use Rattle.board.specs.Sent.{IsSentBy}
@@ -62,7 +61,7 @@ kind_here :
 kind_here s dev below =
     slice_get-map (λ (fitted : BoardDevice). kind_of fitted.state) s.devices dev
     ∙ ap (option_map (λ (fitted : BoardDevice). kind_of fitted.state))
-    (slice_get-get_or s.devices dev (record { state = Finisher; shown = false }) below)
+    (slice_get-get_or s.devices dev (record { state = no_device; shown = false }) below)
 
 pub kind_there :
     (boards : List Board) (b dev : ℕ) (v : View) → view_at boards b ≡ Some v → HasDevices v →
