@@ -13,6 +13,7 @@ from labdev.contracts import clauses_of, crates_below, named
 from labdev.crates import printed, uses_of
 from labdev.recipes import all_documents
 from labdev.versions import items_of, split_changes
+from labtools.boards.kinds import KINDS
 from labtools.common.manual import rows_after
 from labtools.common.program import TOP
 
@@ -311,10 +312,10 @@ def constant(path: str) -> int:
     return int(found[1])
 
 
-def most_of_board(kind: str) -> int:
-    """Returns how many devices of a kind a board may have, by the arms of `Kind::most`."""
-    body = text_of("crates/dev_core/src/kind.rt").split("pub fn most(")[1].split("\n    }\n")[0]
-    found = re.search(rf"(?m)^ *(?:Kind::\w+ \| )*Kind::{kind}(?: \| Kind::\w+)* => (\d+),$", body)
+def arm_of(method: str, kind: str) -> int:
+    """Returns the number that a method of `Kind` answers at this kind, by its arms."""
+    body = text_of("crates/dev_core/src/kind.rt").split(f"pub fn {method}(")[1].split("\n    }\n")[0]
+    found = re.search(rf"(?mi)^ *(?:Kind::\w+ \| )*Kind::{kind}(?: \| Kind::\w+)* => (\d+),$", body)
     if not found:
         raise AssertionError(f"no arm: {kind}")
     return int(found[1])
@@ -328,9 +329,14 @@ class Constants(unittest.TestCase):
     def test_there_are_devices_and_grants_for_each_board(self) -> None:
         boards = constant("lab_num/src/number.rt MOST_BOARDS")
         self.assertEqual(constant("time_source/src/source.rt MEMBERS"), boards)
-        for kind in "Uart", "Can", "Finisher":
-            stock = constant(f"dev_core/src/stock.rt STOCK_{kind.upper()}S")
-            self.assertEqual(stock, boards * most_of_board(kind))
+        for kind in KINDS:
+            self.assertEqual(arm_of("most", kind.name), kind.most)
+            self.assertEqual(arm_of("in_stock", kind.name), boards * kind.most)
+
+    def test_the_tools_know_each_kind_of_device_by_its_number(self) -> None:
+        numbers = {arm_of("number", kind.name): place for place, kind in enumerate(KINDS)}
+        self.assertEqual(numbers, {place: place for place in range(len(KINDS))})
+        self.assertIn(f"KINDS: [Kind; {len(KINDS)}]", text_of("crates/dev_core/src/kind.rt"))
 
 
 class Sources(unittest.TestCase):

@@ -22,8 +22,9 @@ states_of (row ∷ rows) = replicate (stock_of row.kind) (reset_of row.kind) ++ 
 -- its devices are in these
 seen : {D : Type 0} (see : D → DevState) (stock : Stock D) → IsFull see stock → map see (all_of stock) ≡ states_of rows
 seen see stock full =
-    rw (map-append see stock.uarts.items (stock.cans.items ++ stock.finishers.items),
-    map-append see stock.cans.items stock.finishers.items, full.0, full.1, full.2) refl
+    map-append see stock.uarts.items (stock.cans.items ++ stock.finishers.items)
+    ∙ ap (λ rest. map see stock.uarts.items ++ rest) (map-append see stock.cans.items stock.finishers.items)
+    ∙ λ i. full.0 i ++ (full.1 i ++ full.2 i)
 
 -- each of which is a reset state
 abbrev IsReset : DevState → Type 0

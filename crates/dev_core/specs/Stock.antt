@@ -18,7 +18,7 @@ IsFull see stock =
 
 -- all devices of a stock
 abbrev pub all_of : {D : Type 0} → Stock D → List D
-all_of stock = stock.uarts.items ++ stock.cans.items ++ stock.finishers.items
+all_of stock = stock.uarts.items ++ (stock.cans.items ++ stock.finishers.items)
 
 -- how many of them are of a kind
 abbrev pub count_in : {D : Type 0} → (D → DevState) → List D → Kind → ℕ

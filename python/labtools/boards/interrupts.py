@@ -3,6 +3,7 @@ those of docs/DEVICES.md."""
 from dataclasses import dataclass
 from typing import Any, Dict, List, Optional, Tuple
 
+from labtools.boards.kinds import KIND_OF
 from labtools.boards.machine import PINS, Device, Hart, Machine, there
 
 PRIORITIES, ENABLES, CONTEXTS, CLAIM = 0, 0x2000, 0x200000, 4
@@ -58,14 +59,13 @@ class Controller:
 
     def is_used(self, number: int) -> bool:
         """Whether a program has set something of a source, or a device of it has something to tell."""
-        has_received = any(device.state["received"] for device in self.devices_of(number))
+        has_received = any(device.state.get("received") for device in self.devices_of(number))
         is_set = self.held["priorities"][number] > 0 or bool(self.takers_of(number))
         return is_set or has_received or bool(self.up >> number & 1)
 
     def devices_of(self, number: int) -> List[Device]:
         names = self.machine.owners(number)
-        linked = [device for device in self.machine.devices if device.kind in ("uart", "can")]
-        return [device for device in linked if device.name in names]
+        return [device for device in self.machine.devices if device.name in names]
 
     def source(self, number: int) -> Source:
         return Source(
@@ -157,11 +157,7 @@ def sources_text(held: int) -> str:
 
 def device_text(device: Device) -> str:
     """Why a device asks for no interrupt."""
-    state = device.state
-    count = len(state["received"])
-    if device.kind == "uart":
-        return f"{device.name} holds {count or 'no'} byte{'s' * (count != 1)}, and its IER is 0x{state['ier']:02x}"
-    return f"{device.name} holds {count or 'no'} frame{'s' * (count != 1)}, and its CR is 0x{state['control']:02x}"
+    return f"{device.name} {KIND_OF[device.kind].held(device.state)}"
 
 
 def sources_of(machine: Machine) -> List[Source]:

@@ -3,6 +3,7 @@ from dataclasses import dataclass
 from typing import Any, Dict, List, Optional, Set, Tuple
 
 from labtools.boards import references
+from labtools.boards.kinds import KIND_OF
 from labtools.boards.snapshot import PAGE
 
 # Registers of the processor by their ABI names, in order.
@@ -69,26 +70,14 @@ class Hart:
 
 @dataclass(frozen=True)
 class Device:
-    """A UART, a CAN controller or a finisher, with its state."""
+    """A device, with its state."""
 
     name: str
     kind: str
     state: Dict[str, Any]
 
     def is_line_up(self) -> bool:
-        held = self.state
-        if self.kind == "uart":
-            return bool(
-                held["ier"] & 4
-                and held["overrun"]
-                or held["ier"] & 1
-                and held["received"]
-                or held["ier"] & 2
-                and held["empty"]
-            )
-        if self.kind == "can":
-            return bool(held["receive_interrupt"] or held["transmit_interrupt"] or held["overrun_interrupt"])
-        return False
+        return KIND_OF[self.kind].is_line_up(self.state)
 
 
 def there(optional: Tuple[str, Dict[str, Any]]) -> Any:

@@ -82,7 +82,7 @@ class HartReport:
 
 @dataclass(frozen=True)
 class Waiting:
-    """What a UART or a CAN controller has received and nobody has read, and whether more was lost."""
+    """What a device has received and nobody has read, and whether more was lost."""
 
     name: str
     kind: str
@@ -282,7 +282,7 @@ def board_report(held: Dict[str, Any], time: int, paths: List[str], is_with_elve
         name=held["name"],
         images=paths,
         harts=harts,
-        devices=[waiting(device) for device in machine.devices if device.kind != "finisher"],
+        devices=[waiting(device) for device in machine.devices if "received" in device.state],
         claimed=board.claims(),
         sources=interrupts.sources_of(machine),
         warnings=warnings + board.shared_stacks() + board.memory_warnings(),

@@ -7,8 +7,8 @@ use Rattle.dev_core.proofs.state.DevState.is_reset.Goals as goal
 
 pub returns-in-Can : goal.returns-in-Can
 returns-in-Can c =
-    let same = Decides-at _ _ c.eq.ensures (can_decides c.in-Can.can c.reset.result) in (
-      λ told. c.in-Can.is ∙ ap Can (same.0 told ∙ c.reset.ensures) ∙ sym (ap dev_reset c.in-Can.is),
+    let same = Decides-at _ _ c.eq-in-Can.ensures (can_decides c.in-Can.can c.reset-in-Can.result) in (
+      λ told. c.in-Can.is ∙ ap Can (same.0 told ∙ c.reset-in-Can.ensures) ∙ sym (ap dev_reset c.in-Can.is),
       λ seen.
-          same.1 (one_can _ _ (sym c.in-Can.is ∙ seen ∙ ap dev_reset c.in-Can.is) ∙ sym c.reset.ensures),
+          same.1 (one_can _ _ (sym c.in-Can.is ∙ seen ∙ ap dev_reset c.in-Can.is) ∙ sym c.reset-in-Can.ensures),
     )
