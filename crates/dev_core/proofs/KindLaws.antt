@@ -129,9 +129,10 @@ length_within most kinds few =
       arith,
       length_by_rows kinds,
       sum_least (λ (row : Row). count_by (is_kind row.kind) kinds) (λ (row : Row). most row.kind) rows
-      (each_row (λ k. nat_le (count_by (is_kind k) kinds) (most k)) (λ k. le-leb _ _ (few k))),
+          (each_row (λ k. nat_le (count_by (is_kind k) kinds) (most k)) (λ k. le-leb _ _ (few k))),
     )
 
+-- where there are few of each kind, there are few
 pub few_of_all :
     (kinds : List Kind) →
     list_all (λ (row : Row). nat_le (count_by (is_kind row.kind) kinds) (row_of row.kind).most) rows ≡ true →

@@ -37,7 +37,9 @@ fn is_reset_of(state: &DevState, kind: Kind) -> bool
 fn are_reset<D: Device>(devices: &[D], kind: Kind) -> bool
     ensures { IsTrue result ↔ All (λ d. D.meaning d ≡ reset_of kind) devices.now }
 {
-    devices.iter().all(|device| is_reset_of(&device.state(), kind))
+    devices
+        .iter()
+        .all(|device| is_reset_of(&device.state(), kind))
 }
 
 /// Whether these are as many devices of a kind as a full stock has, each in its reset state.
