@@ -1,5 +1,6 @@
 //! The devices that no board has yet.
-ghost use Rattle.std.specs.Prelude.{◌≡◌, ◌<◌, [], ◌∷◌, length, map, slice_index_or, All, OnErr, IfOk, IfNone, IfSome, OnOk};
+ghost use Rattle.std.specs.Prelude.{◌≡◌, ◌<◌, [], ◌∷◌, length, map, slice_index_or, All};
+ghost use Rattle.std.specs.Prelude.{OnErr, IfOk, IfNone, IfSome, OnOk};
 ghost use Rattle.dev_core.specs.Device.{kind_of};
 ghost use Rattle.dev_core.specs.Stock.{IsFull, count_in};
 ghost use Rattle.board.specs.New.{first_state};
