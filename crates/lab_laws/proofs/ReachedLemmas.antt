@@ -1,11 +1,10 @@
 -- A laboratory that there can be has posts that wait rightly, and boards that have made few posts.
-use Rattle.std.proofs.Common.{◌≡◌, ◌∙◌, ℕ, ◌≤◌, false, List, [], ◌∷◌, length, map, refl, ap, arith}
+use Rattle.std.proofs.Common.{◌≡◌, ◌∙◌, ℕ, false, List, [], ◌∷◌, length, map, refl, ap}
 use Rattle.std.specs.Prelude.{Option, IsTrue, Some}
 use Rattle.std.specs.List.{All}
 use Rattle.std.proofs.lemmas.List.{length-map}
 use Rattle.std.proofs.lemmas.List.Elements.{All-map}
 use Rattle.board.specs.Numbers.{Numbers}
-use Rattle.dev_core.specs.declared.kind.Kind.{Kind}
 use Rattle.lab_num.specs.Name.{is_name}
 use Rattle.time_handle.specs.Grant.{Grant, fresh}
 use Rattle.time_source.specs.Tree.{Tree}
@@ -13,12 +12,12 @@ use Rattle.lab_state.specs.Board.{Board}
 use Rattle.lab_state.specs.Hub.{Hub}
 use Rattle.lab_state.specs.Lab.{Lab}
 use Rattle.lab_state.specs.Valid.{IsHub, IsLab}
-use Rattle.lab_state.specs.Inner.Spares.{full, left_of}
+use Rattle.lab_state.specs.Inner.Spares.{full}
 use Rattle.lab_state.specs.Inner.Standing.{Outline, outline, outlines, AreMembers, IsShaped}
 use Rattle.lab_state.specs.Inner.Time.{numbers_of, speed_of}
 use Rattle.lab_state.proofs.ReachedLemmas.{IsReached}
 use Rattle.lab_state.proofs.ResumeLemmas.{sound-valid}
-use Rattle.lab_state.proofs.SoundLemmas.{kind-outlines}
+use Rattle.lab_state.proofs.SoundLemmas.{full-enough, kind-outlines}
 
 -- a source of time with a member for each board
 abbrev handles_of : ℕ → List (Option Numbers) → List Grant
@@ -45,9 +44,6 @@ names_of (board ∷ boards) = ap (λ rest. board.name ∷ rest) (names_of boards
 members : (boards : List Board) (hub : Hub) → IsHub boards hub → AreMembers (outlines boards) hub
 members boards hub is = λ k d within. kind-outlines boards _ ∙ is.members k d within
 
-not_more : (kind : Kind) → left_of full kind ≤ left_of full kind
-not_more kind = omega arith
-
 -- its boards and hubs, with a full stock of devices
 shaped : (lab : Lab) → IsLab lab → IsShaped (outlines lab.boards) lab.hubs full
 shaped lab valid = record {
@@ -59,7 +55,7 @@ shaped lab valid = record {
   devices = λ k d within. members lab.boards _ (valid.hubs k d within);
   delays = λ k d within. (valid.hubs k d within).delay;
   names = rw (names_of lab.boards) valid.names;
-  enough = record { few = not_more; uarts = omega arith; cans = omega arith; finishers = omega arith };
+  enough = full-enough _;
 }
 
 pub is_reached : (lab : Lab) → IsLab lab → IsReached lab

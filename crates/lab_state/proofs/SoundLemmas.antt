@@ -19,6 +19,7 @@ use Rattle.std.proofs.lemmas.Option.{slice_get-get_or, slice_get-map, slice_get_
 use Rattle.lab_num.specs.declared.key.Member.{Member}
 use Rattle.dev_core.specs.declared.kind.Kind.{Kind}
 use Rattle.dev_core.specs.Kind.{row_of}
+use Rattle.dev_core.specs.Stock.{stock_of}
 use Rattle.dev_core.proofs.KindLaws.{each_kind}
 use Rattle.board.specs.Changes.{with_speed}
 use Rattle.board.specs.New.{new_board, new_numbers}
@@ -38,10 +39,11 @@ use Rattle.lab_state.specs.Names.{is_taken}
 use Rattle.lab_state.specs.One.{view_at, view_of, kind_at, with_view, with_member}
 use Rattle.time_source.specs.Tree as tree
 use Rattle.time_source.specs.Tree.{Tree}
-use Rattle.lab_state.specs.Inner.Spares.{Spares, full, left_of, HasFor, AreTaken}
+use Rattle.lab_state.specs.Inner.Spares.{Spares, full, HasFor, AreTaken}
 use Rattle.lab_state.specs.Inner.Standing.{Outline, outline, outlines, kind_of_outline, kind_in, AreMembers, AreDevices}
-use Rattle.lab_state.specs.Inner.Standing.{count_of_plans, IsFormed, IsSound}
+use Rattle.lab_state.specs.Inner.Standing.{count_of_plans, IsEnough, IsFormed, IsSound}
 use Rattle.lab_state.specs.Inner.Time.{number_of, numbers_of}
+use Rattle.lab_state.proofs.SpareLemmas.{left_is}
 use Rattle.lab_state.proofs.ListLemmas.{All-change, each-set, each-push}
 use Rattle.lab_state.proofs.ListLemmas.{none_has, board_more, hub_more, planned_below}
 use Rattle.lab_state.proofs.ChangeLemmas.{same_part, outline-view, Leaves}
@@ -73,6 +75,13 @@ seen_set {lab = lab} F i is at made = rw (← is, set-change F lab.boards i at m
 
 -- ---- a laboratory without boards and hubs
 
+-- a full stock is enough for all boards
+pub full-enough : (plans : ℕ) → IsEnough full plans
+full-enough plans = record {
+  few = λ kind. omega (arith, left_is stock_of kind);
+  left = λ kind. omega (arith, left_is stock_of kind);
+}
+
 pub sound-new : IsSound (record { boards = []; hubs = []; pending = []; now = 0; quantum = 100 }) full tree.new
 sound-new = record {
   shape = record {
@@ -82,7 +91,7 @@ sound-new = record {
     devices = All-nil _;
     delays = All-nil _;
     names = search rules;
-    enough = record { few = λ kind. omega arith; left = λ kind. omega arith };
+    enough = full-enough 0;
   };
   times = search rules;
   pending = none_pending [] 0;
@@ -319,6 +328,29 @@ small plan valid = record {
   devices = λ kind. leb-true _ _ (each_kind (are_few_of plan.kinds) valid.few_devices kind);
   least = grind (arith, nat_tests, valid.speed);
   most = grind (arith, nat_tests, valid.speed);
+}
+
+-- devices that were taken are there again
+pub sound-back :
+    {lab : Lab} {spares : Spares} {source : Tree} (back : Spares) → IsSound lab spares source →
+    AreTaken spares back [] → IsSound lab back source
+sound-back back sound same = record {
+  shape = record {
+    few = sound.shape.few;
+    named = sound.shape.named;
+    formed = sound.shape.formed;
+    devices = sound.shape.devices;
+    delays = sound.shape.delays;
+    names = sound.shape.names;
+    enough = record {
+      few = λ kind. omega (arith, same kind, sound.shape.enough.few kind);
+      left = λ kind. omega (arith, same kind, sound.shape.enough.left kind);
+    };
+  };
+  times = sound.times;
+  pending = sound.pending;
+  sent = sound.sent;
+  timed = sound.timed;
 }
 
 -- a board that has no plan

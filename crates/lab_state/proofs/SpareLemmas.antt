@@ -1,17 +1,32 @@
 -- The devices that no board has yet.
 use Rattle.std.proofs.Common.{◌≡◌, ◌∙◌, sym, ap, refl, ℕ, zero, suc, ◌+◌, ◌<◌, true, cond, List, []}
-use Rattle.std.proofs.Common.{◌∷◌, map, replicate, length, take, get_or, arith}
-use Rattle.std.proofs.lemmas.List.{length-map, length-replicate}
+use Rattle.std.proofs.Common.{◌∷◌, map, length, take, get_or, nat_le, arith}
+use Rattle.std.proofs.lemmas.Bool.{leb-true}
+use Rattle.std.proofs.lemmas.List.{get_or-map}
 use Rattle.std.proofs.lemmas.List.Elements.{All-from_recursion}
 use Rattle.std.proofs.lemmas.List.Sums.{count_by_more_yes, sum_by-take-le}
 use Rattle.std.specs.List.{All, AllByRecursion}
 use Rattle.dev_core.specs.declared.kind.Kind.{Kind}
 use Rattle.dev_core.specs.declared.state.DevState.{DevState}
 use Rattle.dev_core.specs.Device.{kind_of}
-use Rattle.dev_core.specs.Kind.{is_kind}
-use Rattle.dev_core.proofs.KindLaws.{is_kind_itself, kind_of_reset}
+use Rattle.dev_core.specs.Kind.{Row, is_kind, no_kind, row_of, rows}
+use Rattle.dev_core.proofs.KindLaws.{each_kind, is_kind_itself, is_kind_same, kind_of_reset}
 use Rattle.board.specs.New.{first_state}
-use Rattle.lab_state.specs.Inner.Spares.{Spares, left_of, kinds_of, HasFor, AreTaken}
+use Rattle.lab_state.specs.Inner.Spares.{Spares, left_of, kinds_of, spares_of, HasFor, AreTaken}
+
+-- the row of a kind stands at its number
+placed : (k : Kind) → (row_of k).number < length rows
+placed k = omega (arith, leb-true _ _ (each_kind (λ k. nat_le (suc (row_of k).number) (length rows)) refl k))
+
+row_there : (k : Kind) → (get_or rows (row_of k).number (row_of no_kind)).kind ≡ k
+row_there k =
+    is_kind_same k _ (each_kind (λ k. is_kind k (get_or rows (row_of k).number (row_of no_kind)).kind) refl k)
+
+-- so many are left as were counted
+pub left_is : (count : Kind → ℕ) (k : Kind) → left_of (spares_of count) k ≡ count k
+left_is count k =
+    get_or-map (λ (row : Row). count row.kind) rows (row_of k).number (row_of no_kind) 0 (placed k)
+    ∙ ap count (row_there k)
 
 -- there is a device for the kind that comes next
 pub still_left :
@@ -29,10 +44,9 @@ still_left all now kinds i d has taken below =
 
 -- devices that were taken and are put back
 pub all_back :
-    (all left back : Spares) (kinds : List Kind) → AreTaken all left kinds → AreTaken back left kinds → back ≡ all
-all_back all left back kinds taken given =
-    let same : (kind : Kind) → left_of back kind ≡ left_of all kind = λ kind. sym (given kind) ∙ taken kind in
-    λ i. record { left = λ kind. same kind i }
+    (all left back : Spares) (kinds : List Kind) → AreTaken all left kinds → AreTaken back left kinds →
+    AreTaken all back []
+all_back all left back kinds taken given kind = omega (arith, taken kind, given kind)
 
 -- devices in their first states tell their kinds
 pub kinds_first : (kinds : List Kind) → kinds_of (map first_state kinds) ≡ kinds

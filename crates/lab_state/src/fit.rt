@@ -27,7 +27,7 @@ fn made<D: Device>(
     requires few { HasRoomFor spares.old [] }
     ensures ok { IfOk result (λ board. board ≡ quiet (new_board number.0 plan)) }
     ensures taken { OnOk result (AreTaken spares.old spares.new plan.kinds) }
-    ensures err { OnErr result (spares.new ≡ spares.old) }
+    ensures err { OnErr result (AreTaken spares.old spares.new []) }
 {
     let devices = spares.take(alloc, plan.kinds.items())?;
     match Board::new(alloc, number, plan, devices) {

@@ -26,11 +26,11 @@ impl<D: Device> Model for Spares<D> {
     ghost use Rattle.dev_core.specs.Device.{dev_reset};
     ghost use Rattle.dev_core.specs.Kind.{Row, rows};
     ghost use Rattle.dev_core.specs.Stock.{count_in, stock_of};
-    ghost use Rattle.lab_state.specs.Inner.Spares.{Spares as Seen};
+    ghost use Rattle.lab_state.specs.Inner.Spares.{Spares as Seen, spares_of};
 
     ghost Value = { Seen };
 
-    ghost view = { λ s. record { left = count_in D.meaning s.devices.items } };
+    ghost view = { λ s. spares_of (count_in D.meaning s.devices.items) };
 
     ghost invariant = { λ s.
         All (λ d. D.meaning d ≡ dev_reset (D.meaning d)) s.devices.items
@@ -45,7 +45,7 @@ fn place_of<D: Device>(devices: &VecDeque<D>, kind: Kind) -> Option<usize>
     ensures none { IfNone result (count_in D.meaning devices.now.items kind ≡ 0) }
 {
     for place in 0..devices.len() {
-        if devices[place].kind().is(kind) {
+        if kind.is(devices[place].kind()) {
             return Some(place);
         }
     }

@@ -9,6 +9,7 @@ use Rattle.dev_core.specs.declared.kind.Kind.{Kind}
 use Rattle.dev_core.specs.declared.post.Post.{Post}
 use Rattle.dev_core.specs.Device.{kind_of}
 use Rattle.dev_core.specs.Kind.{row_of}
+use Rattle.dev_core.specs.Stock.{stock_of}
 use Rattle.board.specs.Numbers.{Numbers}
 use Rattle.board.specs.Sent.{is_of_kind}
 use Rattle.board.specs.View.{View}
@@ -19,7 +20,7 @@ use Rattle.lab_state.specs.Lab.{Lab}
 use Rattle.lab_state.specs.Names.{AreNames}
 use Rattle.lab_state.specs.Pending.{ArePending}
 use Rattle.time_source.specs.Tree.{Tree}
-use Rattle.lab_state.specs.Inner.Spares.{Spares, left_of, full}
+use Rattle.lab_state.specs.Inner.Spares.{Spares, left_of}
 use Rattle.lab_state.specs.Inner.Time.{numbers_of, IsTimed}
 
 -- a board's name, and the kinds of its devices if it has a plan
@@ -62,8 +63,8 @@ count_of_plans boards = count_by (λ board. is_some board.kinds) boards
 
 -- devices enough for those of 16 boards that have no plan, as many of each kind as a plan may have
 pub record IsEnough (spares : Spares) (plans : ℕ) : Type 0 where
-  pub few : (kind : Kind) → left_of spares kind ≤ left_of full kind
-  pub left : (kind : Kind) → left_of full kind ≤ left_of spares kind + plans * (row_of kind).most
+  pub few : (kind : Kind) → left_of spares kind ≤ stock_of kind
+  pub left : (kind : Kind) → stock_of kind ≤ left_of spares kind + plans * (row_of kind).most
 
 -- names of their form
 abbrev pub AreFormed : List (List ℕ) → Type 0
