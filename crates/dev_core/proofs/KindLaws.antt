@@ -1,14 +1,15 @@
 -- What is said of every kind of device, stated of kinds, of states or of the rows, so that crates above need not go
 -- through the kinds. A new kind gets its lines here, and nowhere above.
 use Rattle.std.proofs.Common.{◌≡◌, ◌∙◌, sym, ap, refl, ℕ, ◌+◌, ◌≤◌, ◌==◌, Bool, true, false, not, ◌&&◌, ◌||◌, List}
-use Rattle.std.proofs.Common.{[], ◌∷◌, length, count_by, nat_le, find, if◌then◌else◌, Option, None, Some, IsTrue}
-use Rattle.std.proofs.Common.{arith, rules}
+use Rattle.std.proofs.Common.{[], ◌∷◌, ◌++◌, length, map, replicate, count_by, nat_le, find, if◌then◌else◌, Option}
+use Rattle.std.proofs.Common.{None, Some, IsTrue, arith, rules}
 use Rattle.std.specs.List.{list_all, sum_by}
 use Rattle.std.specs.Option.{option_map}
 use Rattle.std.specs.Bool.{Decides}
 use Rattle.std.specs.Prelude.{bit_and}
 use Rattle.std.proofs.lemmas.Bool.{and_parts, and_from, eqb-true, leb-true, le-leb}
 use Rattle.std.proofs.lemmas.Bool.Decides.{Decides-and, Decides-like, Decides-eqb}
+use Rattle.std.proofs.lemmas.List.{map-append}
 use Rattle.std.proofs.lemmas.List.Sums.{sum_by-cons}
 use Rattle.std.proofs.lemmas.Option.{none-some, same_Some}
 use Rattle.lab_num.proofs.ListLemmas.{found_passes, passes_at}
@@ -19,11 +20,13 @@ use Rattle.dev_core.specs.declared.payload.Effect.TheVariants.{Quiet, Send}
 use Rattle.dev_core.specs.declared.payload.Payload.{Payload}
 use Rattle.dev_core.specs.declared.state.DevState.{DevState}
 use Rattle.dev_core.specs.declared.state.DevState.TheVariants.{Uart, Can, Finisher}
+use Rattle.dev_core.specs.declared.stock.Stock.{Stock}
 use Rattle.dev_core.specs.Can.{can_store_byte}
 use Rattle.dev_core.specs.Frame.{held_size}
 use Rattle.dev_core.specs.Uart.{capacity, is_trigger, uart_store_byte}
 use Rattle.dev_core.specs.Device.{IsValid, dev_load, dev_reset, dev_store, dev_take, kind_of, reset_of}
 use Rattle.dev_core.specs.Kind.{Row, is_kind, kind_numbered, row_of, rows}
+use Rattle.dev_core.specs.Stock.{IsFull, all_of, stock_of}
 
 -- ---- kinds
 
@@ -218,3 +221,18 @@ unfolding uart_store_byte can_store_byte
 sends_own (Uart u) reg width value = search own_if
 sends_own (Can c) reg width value = search own_if
 sends_own Finisher reg width value = search own_if
+
+-- ---- a full stock
+
+-- the states of a full stock
+abbrev pub states_of : List Row → List DevState
+states_of [] = []
+states_of (row ∷ rows) = replicate (stock_of row.kind) (reset_of row.kind) ++ states_of rows
+
+-- its devices are in these
+pub stock_seen :
+    {D : Type 0} (see : D → DevState) (stock : Stock D) → IsFull see stock → map see (all_of stock) ≡ states_of rows
+stock_seen see stock full =
+    map-append see stock.uarts.items (stock.cans.items ++ stock.finishers.items)
+    ∙ ap (λ rest. map see stock.uarts.items ++ rest) (map-append see stock.cans.items stock.finishers.items)
+    ∙ λ i. full.0 i ++ (full.1 i ++ full.2 i)

@@ -3,7 +3,7 @@ use Rattle.std.proofs.Common.{◌≡◌, ◌∙◌, sym, ap, refl, subst, ℕ, z
 use Rattle.std.proofs.Common.{length, map, replicate, count_by, cond, arith}
 use Rattle.std.specs.List.{All, AllByRecursion, sum_by}
 use Rattle.std.proofs.lemmas.Bool.{eqb-true}
-use Rattle.std.proofs.lemmas.List.{length-map, map-append}
+use Rattle.std.proofs.lemmas.List.{length-map}
 use Rattle.std.proofs.lemmas.List.Elements.{All-from_recursion}
 use Rattle.std.proofs.lemmas.List.Sums.{sum_by-cons}
 use Rattle.dev_core.specs.declared.kind.Kind.{Kind}
@@ -12,21 +12,9 @@ use Rattle.dev_core.specs.declared.stock.Stock.{Stock}
 use Rattle.dev_core.specs.Device.{dev_reset, kind_of, reset_of}
 use Rattle.dev_core.specs.Kind.{Row, is_kind, row_of, rows}
 use Rattle.dev_core.specs.Stock.{IsFull, all_of, count_in, stock_of}
-use Rattle.dev_core.proofs.KindLaws.{each_kind, kind_of_reset, length_within}
+use Rattle.dev_core.proofs.KindLaws.{each_kind, kind_of_reset, length_within, states_of, stock_seen}
 
--- the states of a full stock
-abbrev states_of : List Row → List DevState
-states_of [] = []
-states_of (row ∷ rows) = replicate (stock_of row.kind) (reset_of row.kind) ++ states_of rows
-
--- its devices are in these
-seen : {D : Type 0} (see : D → DevState) (stock : Stock D) → IsFull see stock → map see (all_of stock) ≡ states_of rows
-seen see stock full =
-    map-append see stock.uarts.items (stock.cans.items ++ stock.finishers.items)
-    ∙ ap (λ rest. map see stock.uarts.items ++ rest) (map-append see stock.cans.items stock.finishers.items)
-    ∙ λ i. full.0 i ++ (full.1 i ++ full.2 i)
-
--- each of which is a reset state
+-- each device of it is in a reset state
 abbrev IsReset : DevState → Type 0
 IsReset s = s ≡ dev_reset s
 
@@ -56,9 +44,15 @@ pub stock_reset :
     All (λ d. see d ≡ dev_reset (see d)) (all_of stock)
 stock_reset see stock full =
     All-from_recursion (λ d. see d ≡ dev_reset (see d)) (all_of stock)
-    (of_all see (all_of stock) (subst (AllByRecursion IsReset) (sym (seen see stock full)) (all_reset rows)))
+    (of_all see (all_of stock) (subst (AllByRecursion IsReset) (sym (stock_seen see stock full)) (all_reset rows)))
 
--- and there are so many of each kind
+-- there are so many of them
+pub stock_long :
+    {D : Type 0} (see : D → DevState) (stock : Stock D) → IsFull see stock →
+    length (all_of stock) ≡ sum_by (λ (row : Row). stock_of row.kind) rows
+stock_long see stock full = sym (length-map (all_of stock) see) ∙ ap length (stock_seen see stock full)
+
+-- and so many of each kind
 counted :
     {D : Type 0} (see : D → DevState) (kind : Kind) (ds : List D) →
     count_in see ds kind ≡ count_by (is_kind kind) (map kind_of (map see ds))
@@ -76,7 +70,7 @@ pub stock_counted :
     count_in see (all_of stock) kind ≡ stock_of kind
 stock_counted see stock full kind =
     counted see kind (all_of stock)
-    ∙ ap (λ states. count_by (is_kind kind) (map kind_of states)) (seen see stock full)
+    ∙ ap (λ states. count_by (is_kind kind) (map kind_of states)) (stock_seen see stock full)
     ∙ eqb-true _ _
     (each_kind (λ kind. count_by (is_kind kind) (map kind_of (states_of rows)) == stock_of kind) refl kind)
 

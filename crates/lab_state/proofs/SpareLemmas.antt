@@ -1,16 +1,17 @@
 -- The devices that no board has yet.
 use Rattle.std.proofs.Common.{◌≡◌, ◌∙◌, sym, ap, refl, ℕ, zero, suc, ◌+◌, ◌<◌, true, cond, List, []}
-use Rattle.std.proofs.Common.{◌∷◌, map, length, take, get_or, nat_le, arith}
+use Rattle.std.proofs.Common.{◌∷◌, ◌++◌, map, length, take, get_or, nat_le, arith}
 use Rattle.std.proofs.lemmas.Bool.{leb-true}
-use Rattle.std.proofs.lemmas.List.{get_or-map}
+use Rattle.std.proofs.lemmas.List.{get_or-map, map-append}
 use Rattle.std.proofs.lemmas.List.Elements.{All-from_recursion}
-use Rattle.std.proofs.lemmas.List.Sums.{count_by_more_yes, sum_by-take-le}
+use Rattle.std.proofs.lemmas.List.Sums.{count_by_more_yes, sum_by-append, sum_by-take-le}
 use Rattle.std.specs.List.{All, AllByRecursion}
 use Rattle.dev_core.specs.declared.kind.Kind.{Kind}
 use Rattle.dev_core.specs.declared.state.DevState.{DevState}
 use Rattle.dev_core.specs.Device.{kind_of}
 use Rattle.dev_core.specs.Kind.{Row, is_kind, no_kind, row_of, rows}
 use Rattle.dev_core.proofs.KindLaws.{each_kind, is_kind_itself, is_kind_same, kind_of_reset}
+use Rattle.sys_bus.specs.Limits.{count_of}
 use Rattle.board.specs.New.{first_state}
 use Rattle.lab_state.specs.Inner.Spares.{Spares, left_of, kinds_of, spares_of, HasFor, AreTaken}
 
@@ -41,6 +42,16 @@ still_left all now kinds i d has taken below =
       count_by_more_yes (is_kind kind) kinds i d below (is_kind_itself kind),
       sum_by-take-le (λ k. cond (is_kind kind k) 1 0) kinds (i + 1),
     )
+
+-- a device more
+pub counted_push :
+    {A : Type 0} (see : A → DevState) (xs : List A) (x : A) (kind : Kind) →
+    count_of (kinds_of (map see (xs ++ x ∷ []))) kind
+    ≡ count_of (kinds_of (map see xs)) kind + count_of (kind_of (see x) ∷ []) kind
+counted_push see xs x kind =
+    ap (λ states. count_of (kinds_of states) kind) (map-append see xs (x ∷ []))
+    ∙ ap (λ kinds. count_of kinds kind) (map-append kind_of (map see xs) (see x ∷ []))
+    ∙ sum_by-append (λ k. cond (is_kind kind k) 1 0) (kinds_of (map see xs)) (kind_of (see x) ∷ [])
 
 -- devices that were taken and are put back
 pub all_back :
