@@ -1,10 +1,11 @@
 -- The devices that no board has yet.
 use Rattle.std.proofs.Common.{◌≡◌, ◌∙◌, sym, ap, refl, ℕ, zero, suc, ◌+◌, ◌<◌, true, cond, List, []}
-use Rattle.std.proofs.Common.{◌∷◌, ◌++◌, map, length, take, get_or, nat_le, arith}
+use Rattle.std.proofs.Common.{◌∷◌, ◌++◌, map, length, take, drop, get_or, nat_le, arith}
 use Rattle.std.proofs.lemmas.Bool.{leb-true}
 use Rattle.std.proofs.lemmas.List.{get_or-map, map-append}
-use Rattle.std.proofs.lemmas.List.Elements.{All-from_recursion}
+use Rattle.std.proofs.lemmas.List.Elements.{All-append, All-drop, All-from_recursion, All-take}
 use Rattle.std.proofs.lemmas.List.Sums.{count_by_more_yes, sum_by-append, sum_by-take-le}
+use Rattle.std.specs.Prelude.{remove}
 use Rattle.std.specs.List.{All, AllByRecursion}
 use Rattle.dev_core.specs.declared.kind.Kind.{Kind}
 use Rattle.dev_core.specs.declared.state.DevState.{DevState}
@@ -42,6 +43,10 @@ still_left all now kinds i d has taken below =
       count_by_more_yes (is_kind kind) kinds i d below (is_kind_itself kind),
       sum_by-take-le (λ k. cond (is_kind kind k) 1 0) kinds (i + 1),
     )
+
+-- one is gone
+pub All-remove : {A : Type 0} (P : A → Type 0) (xs : List A) (i : ℕ) → All P xs → All P (remove xs i)
+All-remove P xs i all = All-append P (take i xs) (drop (suc i) xs) (All-take P i xs all) (All-drop P (suc i) xs all)
 
 -- a device more
 pub counted_push :

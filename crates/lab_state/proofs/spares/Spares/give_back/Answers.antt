@@ -1,6 +1,7 @@
 -- A device more is put back.
-use Rattle.std.proofs.Common.{◌≡◌, ◌∙◌, ap, map, arith}
+use Rattle.std.proofs.Common.{◌≡◌, ◌+◌, ◌∙◌, [], ◌∷◌, ap, map, arith}
 use Rattle.std.proofs.lemmas.List.Elements.{All-take}
+use Rattle.dev_core.specs.declared.kind.Kind.{Kind}
 use Rattle.dev_core.specs.Device.{kind_of}
 use Rattle.sys_bus.specs.Limits.{count_of}
 use Rattle.board.specs.New.{first_state}
@@ -11,7 +12,11 @@ use Rattle.lab_state.proofs.spares.Spares.give_back.Goals as goal
 pub loop-device-preserved : goal.loop-device-preserved
 loop-device-preserved g c =
     let see = g.D.Device.meaning in
-    let more = λ kind.
+    let more :
+        (kind : Kind) →
+        count_of (kinds_of (map see c.loop-device.devices.items)) kind
+        ≡ count_of (kinds_of (map see c.pop.new.self.items)) kind + count_of (kind_of (see c.in-Some.device) ∷ []) kind =
+    λ kind.
     ap (λ items. count_of (kinds_of (map see items)) kind) c.in-Some.ensures.items
     ∙ counted_push see c.pop.new.self.items c.in-Some.device kind in
     record {

@@ -1,11 +1,10 @@
 -- There is one, and the others stay.
 use Rattle.std.proofs.Common.{◌≡◌, ap, refl, arith, None, Some}
 use Rattle.std.specs.Prelude.{IfNone, IsSome}
-use Rattle.std.proofs.lemmas.List.Elements.{All-append, All-drop, All-take}
 use Rattle.dev_core.specs.Device.{dev_reset}
 use Rattle.dev_core.specs.Stock.{count_in}
 use Rattle.lab_state.specs.Inner.Spares.{Spares, left_of}
-use Rattle.lab_state.proofs.SpareLemmas.{left_is}
+use Rattle.lab_state.proofs.SpareLemmas.{All-remove, left_is}
 use Rattle.lab_state.proofs.spares.Spares.next.Goals as goal
 
 pub unwrap-place-requires : goal.unwrap-place-requires
@@ -20,8 +19,8 @@ unwrap-place-requires g c =
 
 pub invariant_of-self : goal.invariant_of-self
 invariant_of-self g c =
-    let is = λ d. g.D.Device.meaning d ≡ dev_reset (g.D.Device.meaning d) in (
+    let see = g.D.Device.meaning in (
       rw (rw c.unwrap.ensures at c.remove.ensures.items)
-      (All-append is _ _ (All-take is _ _ c.self.invariant.0) (All-drop is _ _ c.self.invariant.0)),
+      (All-remove (λ d. see d ≡ dev_reset (see d)) c.self.inside.devices.items c.unwrap-place.result c.self.invariant.0),
       omega (arith, c.remove.ensures.capacity, c.self.invariant.1),
     )
