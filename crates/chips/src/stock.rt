@@ -9,6 +9,7 @@ use lab_num::NoMemory;
 use std::alloc::Global;
 
 /// Makes chips.
+#[derive(Drop)]
 struct Chips {
     alloc: Global,
 }

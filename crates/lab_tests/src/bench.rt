@@ -66,6 +66,7 @@ pub fn words_of(alloc: Global, words: &[&str]) -> Result<Vec<String>, NoMemory> 
 }
 
 /// Makes devices in boxes.
+#[derive(Drop)]
 struct Boxes {
     alloc: Global,
 }

@@ -80,6 +80,7 @@ impl Counts {
 }
 
 /// Makes devices that count their calls.
+#[derive(Drop)]
 struct Chips<'a> {
     alloc: Global,
     counts: &'a Counts,
