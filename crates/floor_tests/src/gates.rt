@@ -28,18 +28,11 @@ impl Turnstile {
         }
     }
 
-    pub fn entered(&self) -> u64 {
-        self.entered.load(Ordering::SeqCst)
-    }
-
-    /// How many turns have begun.
-    pub fn begun(&self) -> u64 {
-        self.begun.load(Ordering::SeqCst)
-    }
-
-    /// Whether a turn has begun before the gate was entered for it.
-    pub fn slipped_by(&self) -> bool {
-        self.slipped_by.load(Ordering::SeqCst)
+    /// Whether it was entered for so many turns, each of which has begun behind it.
+    pub fn has_let_in(&self, turns: u64) -> bool {
+        self.entered.load(Ordering::SeqCst) == turns
+            && self.begun.load(Ordering::SeqCst) == turns
+            && !self.slipped_by.load(Ordering::SeqCst)
     }
 }
 
@@ -49,83 +42,65 @@ impl Gate for Turnstile {
     }
 }
 
-/// A gate that holds each of so many turns, but the last, until the next one enters. An `enter` that
-/// has looked 100,000,000 times in vain gives up, and no further one is held.
-///
-/// Two workers on two boards of as many turns each: while one is held, its board is out, so the other
-/// goes over both boards and wins none but its own.
+/// Whom a gate holds.
+#[derive(Clone, Copy)]
+pub enum Hold {
+    /// Each of so many turns, but the last, until the next one enters.
+    ///
+    /// Two workers on two boards of as many turns each: while one is held, its board is out, so the other goes over
+    /// both boards and wins none but its own.
+    Relay(u64),
+
+    /// Each one who enters until another comes: two and two go on together.
+    Pairs,
+}
+
+/// A gate that holds those who enter by a rule. An `enter` that has looked 100,000,000 times in vain gives up, and no
+/// further one is held.
 #[derive(Drop)]
-pub struct Relay {
-    turns: u64,
+pub struct HoldingGate {
+    hold: Hold,
     entered: AtomicU64,
     gave_up: AtomicBool,
 }
 
-impl Relay {
-    pub fn new(turns: u64) -> Relay {
-        Relay {
-            turns,
+impl HoldingGate {
+    pub fn new(hold: Hold) -> HoldingGate {
+        HoldingGate {
+            hold,
             entered: AtomicU64::new(0),
             gave_up: AtomicBool::new(false),
         }
     }
 
-    pub fn entered(&self) -> u64 {
+    fn entered(&self) -> u64 {
         self.entered.load(Ordering::SeqCst)
     }
 
-    /// Whether an `enter` has given up.
-    pub fn gave_up(&self) -> bool {
+    fn gave_up(&self) -> bool {
         self.gave_up.load(Ordering::SeqCst)
+    }
+
+    /// Whether so many have entered, and none of them has given up.
+    pub fn has_let_in(&self, turns: u64) -> bool {
+        self.entered() == turns && !self.gave_up()
+    }
+
+    /// How many have entered when one goes on who came behind so many.
+    fn awaited(&self, before: u64) -> u64 {
+        match self.hold {
+            Hold::Relay(turns) => before.saturating_add(2).min(turns),
+            Hold::Pairs => (before | 1).saturating_add(1),
+        }
     }
 }
 
-impl Gate for Relay {
+impl Gate for HoldingGate {
     fn enter(&self, _board: BoardNo) {
         let before = self.entered.fetch_add(1, Ordering::SeqCst);
-        let awaited = before.saturating_add(2).min(self.turns);
+        let awaited = self.awaited(before);
         for _ in 0..100_000_000_u64 {
             if self.entered() >= awaited || self.gave_up() {
-                return;
-            }
-            spin_loop();
-        }
-        self.gave_up.store(true, Ordering::SeqCst);
-    }
-}
-
-/// A gate that holds each one who enters until another comes: two and two go on together. An `enter`
-/// that has looked 100,000,000 times in vain gives up.
-#[derive(Drop)]
-pub struct Pairs {
-    entered: AtomicU64,
-    gave_up: AtomicBool,
-}
-
-impl Pairs {
-    pub fn new() -> Pairs {
-        Pairs {
-            entered: AtomicU64::new(0),
-            gave_up: AtomicBool::new(false),
-        }
-    }
-
-    pub fn entered(&self) -> u64 {
-        self.entered.load(Ordering::SeqCst)
-    }
-
-    /// Whether an `enter` has given up.
-    pub fn gave_up(&self) -> bool {
-        self.gave_up.load(Ordering::SeqCst)
-    }
-}
-
-impl Gate for Pairs {
-    fn enter(&self, _board: BoardNo) {
-        let before = self.entered.fetch_add(1, Ordering::SeqCst);
-        let awaited = (before | 1).saturating_add(1);
-        for _ in 0..100_000_000_u64 {
-            if self.entered() >= awaited {
                 return;
             }
             spin_loop();

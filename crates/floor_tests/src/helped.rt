@@ -1,7 +1,7 @@
 //! Rounds of toys by helpers that live through more than one.
 ghost use Rattle.std.specs.Prelude.{◌≡◌, ◌≤◌, [], length, All};
 
-use crate::gates::Pairs;
+use crate::gates::{Hold, HoldingGate};
 use crate::toy::Toy;
 use crate::toys::late_toy;
 use floor_run::{Gate, Helpers, run_round_with};
@@ -57,15 +57,14 @@ fn two_rounds<R: Threads + Wait + Copy + Send + Sync, G: Gate>(
 
 #[test]
 fn a_helper_is_at_work_beside_its_leader_in_both_rounds(rt: HostRuntime) -> Result<(), Fail> {
-    let gate = Pairs::new();
+    let gate = HoldingGate::new(Hold::Pairs);
     let alloc = rt.alloc();
     let first = vec![in alloc; late_toy(alloc, 0, 2)?, late_toy(alloc, 1, 2)?]?;
     let second = vec![in alloc; late_toy(alloc, 0, 4)?, late_toy(alloc, 1, 4)?]?;
     let (one, two) = two_rounds(&rt, alloc, first, second, &gate)?;
     assert_eq!(rt; (one.len(), two.len()), (2, 2));
-    assert_eq!(rt; (one[0].taken(), one[1].taken()), (3, 3));
-    assert_eq!(rt; (two[0].taken(), two[1].taken()), (5, 5));
-    assert_eq!(rt; gate.entered(), 4);
-    assert!(rt; !gate.gave_up());
+    assert!(rt; one[0].taken() == 3 && one[1].taken() == 3);
+    assert!(rt; two[0].taken() == 5 && two[1].taken() == 5);
+    assert!(rt; gate.has_let_in(4));
     Ok(())
 }

@@ -1,13 +1,8 @@
-//! Tests of grants and their source, of floors, of mailboxes, of toys and boards with their grants on
-//! them, and of rounds on threads.
+//! Tests of grants and their source, of floors, of mailboxes, of a board with its grant, and of rounds on threads.
 #![tactic(auto)]
 
 #[cfg(test)]
 mod board_jobs;
-#[cfg(test)]
-mod boards;
-#[cfg(test)]
-mod events;
 #[cfg(test)]
 mod gates;
 #[cfg(test)]

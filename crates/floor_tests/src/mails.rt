@@ -1,12 +1,10 @@
 //! What is drained of each board is what its pass has posted, in order.
-ghost use Rattle.std.specs.Prelude.{◌≡◌, ℕ, ◌+◌, ◌≤◌, All, [], length, IfOk};
-ghost use Rattle.hub_mail.specs.Pass.{fresh_passes};
+ghost use Rattle.std.specs.Prelude.{◌≡◌, [], IfOk};
 
 use dev_core::{Payload, Post};
-use hub_mail::{Boss, Mail, Pass};
+use hub_mail::{Mail, Pass};
 use lab_num::{BoardNo, Key, Member, Micros, NoMemory, PostNo};
 use std::alloc::Global;
-use std::process::Abort;
 use std::sync::Wait;
 use std::test::Fail;
 use std::thread;
@@ -41,58 +39,6 @@ fn posted<R: Wait>(rt: &R, mut pass: Pass, board: u8, count: u64) -> Result<Pass
         };
     }
     Ok(pass)
-}
-
-/// All passes after their posts, that of the last board first.
-fn all_posted<R: Wait>(
-    rt: &R,
-    alloc: Global,
-    boss: &Boss,
-    mut passes: Vec<Pass>,
-    counts: &[u64],
-) -> Result<Vec<Pass>, NoMemory>
-    requires passes { passes.items ≡ fresh_passes boss.now.mail (length counts.now) }
-    requires some { length counts.now ≤ 16 }
-    ensures mail { IfOk result (λ all. All (λ p. p.mail ≡ boss.now.mail) all.items) }
-    ensures len { IfOk result (λ all. length all.items ≡ length counts.now) }
-{
-    let mut all = Vec::new(alloc);
-    while let Some(pass) = passes.pop() {
-        let board = passes.len();
-        all.push(posted(rt, pass, board as u8, counts[board])?)?;
-    }
-    Ok(all)
-}
-
-/// Takes the passes in, the last of the list first.
-fn take_all<R: Wait>(rt: &R, boss: &mut Boss, mut passes: Vec<Pass>)
-    requires mail { All (λ p. p.mail ≡ boss.old.mail) passes.items }
-    ensures taken { length boss.new.taken ≡ length boss.old.taken + length passes.items }
-    ensures count { boss.new.count ≡ boss.old.count }
-{
-    while let Some(pass) = passes.pop() {
-        boss.take_in(rt, pass);
-    }
-}
-
-/// What is drained where each board posts so many, and the passes are taken in from the first board
-/// on or from the last one. No mail has more than 16 boards, or none.
-fn drained<R: Wait>(
-    rt: &R,
-    alloc: Global,
-    counts: &[u64],
-    from_last: bool,
-) -> Result<Vec<Post>, NoMemory> {
-    if counts.is_empty() || counts.len() > 16 {
-        return Ok(Vec::new(alloc));
-    }
-    let (mut boss, passes) = Mail::begin(rt, alloc, counts.len() as u8)?;
-    let mut passes = all_posted(rt, alloc, &boss, passes, counts)?;
-    if from_last {
-        passes.reverse();
-    }
-    take_all(rt, &mut boss, passes);
-    boss.drain(rt)
 }
 
 /// What is drained where two threads post beside each other, each for a board.
@@ -138,37 +84,26 @@ fn are_in_order(posts: &[Post], counts: &[u64]) -> bool {
         .all(|post| usize::from(post.key.board.0) < counts.len())
 }
 
-/// How many posts each board makes, in order of board, and whether the passes are taken in from the
-/// last board on. A block of the queue holds 31 posts.
-static MAILS: [(&[u64], bool); 7] = [
-    (&[1, 2], false),
-    (&[1, 2], true),
-    (&[0, 3], false),
-    (&[0], true),
-    (&[31, 1], false),
-    (&[100, 0, 70], true),
-    (
-        &[0, 1, 2, 3, 4, 5, 6, 7, 8, 9, 10, 11, 12, 13, 14, 15],
-        false,
-    ),
-];
+/// How many posts the two boards make. A block of the queue holds 31 posts.
+static MAILS: [(u64, u64); 4] = [(1, 2), (0, 3), (31, 1), (100, 70)];
 
-#[test]
-fn each_board_is_drained_in_its_order(rt: HostRuntime) -> Result<(), Fail> {
-    for (counts, from_last) in &MAILS {
-        let posts = drained(&rt, rt.alloc(), counts, *from_last)?;
-        let right = are_in_order(&posts, counts);
-        assert!(rt; right, "{counts:?}");
-    }
-    Ok(())
+/// Whether the posts of two threads are drained in the order of each.
+fn are_drained_in_order<R: Threads + Wait + Sync>(
+    rt: &R,
+    alloc: Global,
+    counts: (u64, u64),
+) -> Result<bool, NoMemory> {
+    let posts = drained_of_two(rt, alloc, counts)?;
+    Ok(are_in_order(&posts, &[counts.0, counts.1]))
 }
 
 #[test]
 fn two_threads_post_beside_each_other(rt: HostRuntime) -> Result<(), Fail> {
-    for _ in 0..500 {
-        let posts = drained_of_two(&rt, rt.alloc(), (100, 70))?;
-        let right = are_in_order(&posts, &[100, 70]);
-        assert!(rt; right);
+    for _ in 0..200 {
+        for counts in &MAILS {
+            let are_so = are_drained_in_order(&rt, rt.alloc(), *counts)?;
+            assert!(rt; are_so, "{counts:?}");
+        }
     }
     Ok(())
 }

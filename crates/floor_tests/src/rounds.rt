@@ -1,5 +1,5 @@
 //! Rounds of toys on threads.
-use crate::gates::{Relay, Turnstile};
+use crate::gates::{Hold, HoldingGate, Turnstile};
 use crate::toy::Toy;
 use crate::toys::late_toy;
 use floor_core::Job;
@@ -10,9 +10,17 @@ use std::sync::{Arc, Wait};
 use std::test::Fail;
 use std::thread::Threads;
 
+/// Whether a toy has taken so many slots, and has no further ones.
+fn is_done(toy: &Toy, slots: u64) -> bool {
+    toy.taken() == slots && toy.left() == 0
+}
+
 #[test]
 fn jobs_come_back_finished_and_in_their_order(rt: HostRuntime) -> Result<(), Fail> {
     let alloc = rt.alloc();
+    let none: Vec<Toy> = Vec::new(alloc);
+    let done = run_round(&rt, alloc, none, 8, &NoGate)?;
+    assert!(rt; done.is_empty());
     let jobs = vec![in alloc;
         Toy::new(alloc, Vec::new(alloc)),
         late_toy(alloc, 1, 4)?,
@@ -20,21 +28,7 @@ fn jobs_come_back_finished_and_in_their_order(rt: HostRuntime) -> Result<(), Fai
     ]?;
     let done = run_round(&rt, alloc, jobs, 8, &NoGate)?;
     assert_eq!(rt; done.len(), 3);
-    assert_eq!(rt;
-        (done[0].taken(), done[1].taken(), done[2].taken()),
-        (0, 5, 9)
-    );
-    assert_eq!(rt; (done[0].left(), done[1].left(), done[2].left()), (0, 0, 0));
-    Ok(())
-}
-
-#[test]
-fn a_round_of_no_jobs_gives_none_back(rt: HostRuntime) -> Result<(), Fail> {
-    for workers in 1..9_u8 {
-        let none: Vec<Toy> = Vec::new(rt.alloc());
-        let done = run_round(&rt, rt.alloc(), none, workers, &NoGate)?;
-        assert!(rt; done.is_empty());
-    }
+    assert!(rt; is_done(&done[0], 0) && is_done(&done[1], 5) && is_done(&done[2], 9));
     Ok(())
 }
 
@@ -43,10 +37,8 @@ fn ten_thousand_slots_are_three_turns_behind_the_gate(rt: HostRuntime) -> Result
     let alloc = rt.alloc();
     let gate = Arc::new(alloc, Turnstile::new())?;
     let toy = late_toy(alloc, 0, 9_999)?.behind(Arc::try_clone(&gate)?);
-    let done = run_round(&rt, alloc, vec![in alloc; toy]?, 2, &*gate)?;
-    assert_eq!(rt; done.len(), 1);
-    assert_eq!(rt; (gate.entered(), gate.begun()), (3, 3));
-    assert!(rt; !gate.slipped_by());
+    let _done = run_round(&rt, alloc, vec![in alloc; toy]?, 2, &*gate)?;
+    assert!(rt; gate.has_let_in(3));
     Ok(())
 }
 
@@ -60,11 +52,11 @@ fn are_beside_each_other<R: Threads + Wait + Copy + Send + Sync>(
     slots: usize,
     turns: u64,
 ) -> Result<bool, NoMemory> {
-    let gate = Relay::new(turns);
+    let gate = HoldingGate::new(Hold::Relay(turns));
     let idle = slots.saturating_sub(1);
     let jobs = vec![in alloc; late_toy(alloc, 0, idle)?, late_toy(alloc, 1, idle)?]?;
     let _done = run_round(rt, alloc, jobs, 2, &gate)?;
-    Ok(gate.entered() == turns && !gate.gave_up())
+    Ok(gate.has_let_in(turns))
 }
 
 #[test]

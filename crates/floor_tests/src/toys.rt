@@ -1,13 +1,12 @@
-//! Toys on a floor: lists of events that stop, and all orders of what three workers do.
+//! Toys on a floor: lists of events, and where they stop.
 ghost use Rattle.std.specs.Prelude.{◌≡◌, ◌<◌, [], length, IfOk};
 
 use crate::toy::Toy;
-use crate::words::{event, events_of};
+use crate::words::events_of;
 use dev_core::{Payload, Post};
-use floor_core::{Event, Floor, Job, Ran};
+use floor_core::{Floor, Job, Ran};
 use lab_num::{BoardNo, Key, Member, Micros, NoMemory, PostNo};
 use std::alloc::Global;
-use std::process::Abort;
 use std::test::Fail;
 
 /// The post number `number` of a board, which it makes at `at`.
@@ -34,145 +33,76 @@ pub fn late_toy(alloc: Global, board: u8, idle: usize) -> Result<Toy, NoMemory>
 }
 
 /// Two boards of ten slots: the first makes one post in its last slot, the second makes none.
-fn two_boards(alloc: Global) -> Result<Floor<Toy>, NoMemory> {
-    let mut slots = vec![in alloc; None; 9]?;
-    slots.push(Some(post(0, 9, 0)))?;
-    let first = Toy::new(alloc, slots);
+fn two_boards(alloc: Global) -> Result<Floor<Toy>, NoMemory>
+    ensures { IfOk result (λ floor. length floor.boards ≡ 2) }
+{
+    let first = late_toy(alloc, 0, 9)?;
     let second = Toy::new(alloc, vec![in alloc; None; 10]?);
     Floor::begin(alloc, vec![in alloc; first, second]?)
 }
 
-/// Each row: events, what becomes of them, and whether the floor is ended then.
-static STOPS: [(&str, Ran, bool); 16] = [
-    ("c01a c111", Ran::Stopped(1), false),
-    ("c019 r01 c111", Ran::All, false),
-    ("c019 r01 c112", Ran::Stopped(2), false),
-    ("c01b", Ran::Stopped(0), false),
-    ("c010", Ran::Stopped(0), false),
-    ("c021", Ran::Stopped(0), false),
-    ("c00a r00", Ran::Stopped(1), false),
-    ("c009 r00", Ran::All, false),
-    ("c00a p10", Ran::Stopped(1), false),
-    ("c00a p00 p00", Ran::Stopped(2), false),
-    ("c00a p00 r10", Ran::Stopped(2), false),
-    ("c00a p00 r00 c101", Ran::Stopped(3), false),
-    ("e", Ran::Stopped(0), false),
-    ("c00a p00 r00 c11a e", Ran::Stopped(4), false),
-    ("c00a c11a p00 r00 r11 e", Ran::All, true),
-    ("c00a c11a p00 r00 r11 e e", Ran::Stopped(6), true),
+/// Each row: events, what becomes of them, and of the floor then: whether it is ended, how many posts are in the mail,
+/// and how many slots each board has used.
+type Row = (&'static str, Ran, bool, usize, (u64, u64));
+
+static STOPS: [Row; 16] = [
+    ("c01a c111", Ran::Stopped(1), false, 0, (0, 10)),
+    ("c019 r01 c111", Ran::All, false, 0, (0, 10)),
+    ("c019 r01 c112", Ran::Stopped(2), false, 0, (0, 9)),
+    ("c01b", Ran::Stopped(0), false, 0, (0, 0)),
+    ("c010", Ran::Stopped(0), false, 0, (0, 0)),
+    ("c021", Ran::Stopped(0), false, 0, (0, 0)),
+    ("c00a r00", Ran::Stopped(1), false, 0, (10, 0)),
+    ("c009 r00", Ran::All, false, 0, (9, 0)),
+    ("c00a p10", Ran::Stopped(1), false, 0, (10, 0)),
+    ("c00a p00 p00", Ran::Stopped(2), false, 1, (10, 0)),
+    ("c00a p00 r10", Ran::Stopped(2), false, 1, (10, 0)),
+    ("c00a p00 r00 c101", Ran::Stopped(3), false, 1, (10, 0)),
+    ("e", Ran::Stopped(0), false, 0, (0, 0)),
+    ("c00a p00 r00 c11a e", Ran::Stopped(4), false, 1, (10, 10)),
+    ("c00a c11a p00 r00 r11 e", Ran::All, true, 1, (10, 10)),
+    (
+        "c00a c11a p00 r00 r11 e e",
+        Ran::Stopped(6),
+        true,
+        1,
+        (10, 10),
+    ),
 ];
 
-/// What becomes of these events with two boards, and whether the floor is ended then.
-fn ran(alloc: Global, text: &str) -> Result<(Ran, bool), NoMemory> {
-    let events = events_of(alloc, text)?;
-    let mut floor = two_boards(alloc)?;
-    let ran = floor.run_events(&events);
-    Ok((ran, floor.is_ended()))
+/// Whether a board has used so many of its slots, and has the others left.
+fn has_used(floor: &Floor<Toy>, board: u8, slots: u64) -> bool
+    requires { board < length floor.now.boards }
+{
+    let board = BoardNo(board);
+    floor.used(board) == slots && floor.job(board).left() == 10_u64.saturating_sub(slots)
 }
 
-fn assert_stops(
-    rt: &impl Abort,
-    alloc: Global,
-    rows: &[(&str, Ran, bool)],
-) -> Result<(), NoMemory> {
-    for (text, expected, ended) in rows {
-        let is_so = ran(alloc, text)? == (*expected, *ended);
-        assert!(rt; is_so, "{text}");
-    }
-    Ok(())
+/// Whether so many posts are in the mail, each of which is the first board's.
+fn has_mail(floor: &Floor<Toy>, posts: usize) -> bool {
+    floor.mail().len() == posts
+        && floor.mail().iter().all(|mailed| mailed.by == BoardNo(0) && mailed.post == post(0, 9, 0))
+}
+
+/// Whether the events come to what the row says.
+fn is_row(alloc: Global, row: &Row) -> Result<bool, NoMemory> {
+    let (text, ran, is_ended, posts, used) = *row;
+    let events = events_of(alloc, text)?;
+    let mut floor = two_boards(alloc)?;
+    Ok(
+        floor.run_events(&events) == ran
+            && floor.is_ended() == is_ended
+            && has_mail(&floor, posts)
+            && has_used(&floor, 0, used.0)
+            && has_used(&floor, 1, used.1),
+    )
 }
 
 #[test]
 fn a_list_stops_at_its_first_event_that_is_not_legal(rt: HostRuntime) -> Result<(), Fail> {
-    assert_stops(&rt, rt.alloc(), &STOPS)?;
-    Ok(())
-}
-
-/// What the workers do with each of three boards, in order.
-const SCRIPTS: [&str; 3] = ["c002 p00 p00 r00", "c112 p11 r11", "c023 r02"];
-
-/// The words of all scripts, each taken from the script that the next ternary digit of `code` names, and a close; or
-/// nothing where a script is named more often than it has words.
-fn order(alloc: Global, code: u32) -> Result<Option<Vec<Event>>, NoMemory> {
-    let mut scripts = SCRIPTS.map(|script| script.split(' '));
-    let mut rest = code;
-    let mut events = Vec::new(alloc);
-    for _ in 0..9 {
-        let board = (rest % 3) as usize;
-        rest /= 3;
-        let Some(word) = scripts[board].next() else {
-            return Ok(None);
-        };
-        events.push(event(word.as_bytes()))?;
+    for row in &STOPS {
+        let is_row = is_row(rt.alloc(), row)?;
+        assert!(rt; is_row, "{}", row.0);
     }
-    events.push(Event::Close)?;
-    Ok(Some(events))
-}
-
-/// The boards of the scripts.
-fn three_boards(alloc: Global) -> Result<Floor<Toy>, NoMemory>
-    ensures { IfOk result (λ floor. length floor.boards ≡ 3) }
-{
-    let first = Toy::new(
-        alloc,
-        vec![in alloc; Some(post(0, 0, 0)), Some(post(0, 3, 1))]?,
-    );
-    let second = Toy::new(alloc, vec![in alloc; None, Some(post(1, 2, 0))]?);
-    let third = Toy::new(alloc, vec![in alloc; None; 3]?);
-    Floor::begin(alloc, vec![in alloc; first, second, third]?)
-}
-
-/// Their posts in rising order of key.
-fn all_posts() -> [Post; 3] {
-    [post(0, 0, 0), post(1, 2, 0), post(0, 3, 1)]
-}
-
-/// The posts in the mail in rising order of key.
-fn listed(alloc: Global, floor: &Floor<Toy>) -> Result<Vec<Post>, NoMemory> {
-    let mut posts = Vec::new(alloc);
-    for mailed in floor.mail() {
-        posts.push(mailed.post)?;
-    }
-    posts.sort_by_key(|post| post.key)?;
-    Ok(posts)
-}
-
-/// The board has used so many slots, and has nothing left and nothing unsent.
-fn is_done(floor: &Floor<Toy>, board: u8, slots: u64) -> bool
-    requires { board < length floor.now.boards }
-{
-    let board = BoardNo(board);
-    let job = floor.job(board);
-    floor.used(board) == slots && job.left() == 0 && job.next_post().is_none()
-}
-
-/// Whether the mail has what each order of the scripts leaves in it.
-fn are_posted(alloc: Global, floor: &Floor<Toy>) -> Result<bool, NoMemory> {
-    let posts = listed(alloc, floor)?;
-    Ok(posts.as_slice() == all_posts().as_slice())
-}
-
-/// The events all happen, end the floor, and leave what each order of the scripts leaves.
-fn come_to_the_same(alloc: Global, events: &[Event]) -> Result<bool, NoMemory> {
-    let mut floor = three_boards(alloc)?;
-    let ran = floor.run_events(events);
-    let are_done = is_done(&floor, 0, 2) && is_done(&floor, 1, 2) && is_done(&floor, 2, 3);
-    if ran == Ran::All && floor.is_ended() && are_done {
-        are_posted(alloc, &floor)
-    } else {
-        Ok(false)
-    }
-}
-
-#[test]
-fn all_orders_of_three_boards_come_to_the_same(rt: HostRuntime) -> Result<(), Fail> {
-    let mut orders = 0_u32;
-    for code in 0..19_683 {
-        if let Some(events) = order(rt.alloc(), code)? {
-            assert!(rt; come_to_the_same(rt.alloc(), &events)?);
-            orders = orders.saturating_add(1);
-        }
-    }
-    assert_eq!(rt; orders, 1_260);
     Ok(())
 }

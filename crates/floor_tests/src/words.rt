@@ -14,7 +14,7 @@ fn digit(word: &[u8], place: usize) -> u8 {
 
 /// An event: `c` claims, `p` posts, `r` reports, each with the digits of the worker, of the board
 /// and, for a claim, of the slots; `e` closes.
-pub fn event(word: &[u8]) -> Event {
+fn event(word: &[u8]) -> Event {
     let worker = digit(word, 1);
     let board = BoardNo(digit(word, 2));
     let slots = u64::from(digit(word, 3));

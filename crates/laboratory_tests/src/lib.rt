@@ -1,7 +1,9 @@
-//! Tests of laboratories and of the text of their logs.
+//! Tests of laboratories: who calls their devices, and how many workers at once.
 #![tactic(auto)]
 
 #[cfg(test)]
-mod laboratories;
+mod chip;
 #[cfg(test)]
-mod logs;
+mod laboratory;
+#[cfg(test)]
+mod workers;
