@@ -397,7 +397,7 @@ def ended(script: str, folder: pathlib.Path, word: str, is_traced: bool) -> Ende
     """How the program ends that checks or runs a script."""
     with tempfile.NamedTemporaryFile("r", prefix="lab-trace-") as trace:
         tracer = ["strace", "-f", "-qq", "-s", "4096", "-e", "trace=open,openat", "-o", trace.name]
-        words = [*(tracer if is_traced else []), lab(), word, script]
+        words = [*(tracer if is_traced else []), lab(), word, "--", script]
         ran = subprocess.run(words, cwd=folder, stdin=subprocess.DEVNULL, stdout=subprocess.PIPE, timeout=SECONDS)
         names = [cases.unescaped(name.encode()).decode() for name in OPENED.findall(trace.read())]
     last = ran.stdout.decode(errors="surrogateescape").rstrip("\n").rpartition("\n")[2]
