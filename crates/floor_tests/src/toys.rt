@@ -36,7 +36,9 @@ pub fn late_toy(alloc: Global, board: u8, idle: usize) -> Result<Toy, NoMemory>
 fn two_boards(alloc: Global) -> Result<Floor<Toy>, NoMemory>
     ensures { IfOk result (λ floor. length floor.boards ≡ 2) }
 {
-    let first = late_toy(alloc, 0, 9)?;
+    let mut slots = vec![in alloc; None; 9]?;
+    slots.push(Some(post(0, 9, 0)))?;
+    let first = Toy::new(alloc, slots);
     let second = Toy::new(alloc, vec![in alloc; None; 10]?);
     Floor::begin(alloc, vec![in alloc; first, second]?)
 }
