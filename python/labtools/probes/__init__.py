@@ -1,0 +1,1 @@
+"""What lab_probe tells of runs: coverage, profiles and traces."""
