@@ -12,7 +12,8 @@ whose lines begin with a bar.
     <!-- run COMMAND = N -->   the same, and it ends with N
     <!-- do -->                each of these lines is a command, and they end with 0
 
-A comment may end with `with PROGRAM` or `with FILE`: its block is tried only if that program or file is installed.
+A comment may end with `with PROGRAM` or `with FILE`, or several with commas: its block is tried only if all of these
+are installed.
 
 Each document has a room of its own, a new folder in which its commands run, with `lab`, `tools` and `demo`. With LAB
 set, `lab` is ./lab with that program. A line that begins with `passed over` tells what is passed over. It ends with 0;
@@ -30,6 +31,7 @@ from typing import Dict, Iterator, List, Optional, Tuple
 
 from labdev.pythons import with_pyelftools
 from labtools.common.program import TOP, end_wrong, path_of_program
+from labtools.probes.probe import standing_probe
 
 MARK = re.compile(r"<!-- (lines of|file|run|do)\b ?(.*?) ?-->")
 WITH = re.compile(r"(.*?) ?with (\S+)$")
@@ -117,14 +119,17 @@ def is_here(needed: str) -> bool:
     """Whether a program is installed, a file is there, or a Python has pyelftools."""
     if needed == "pyelftools":
         return with_pyelftools() is not None
+    if needed == "lab_probe":
+        return standing_probe() is not None
     return shutil.which(needed) is not None or os.path.exists(needed)
 
 
 def try_block(kind: str, words: str, block: str, room: str) -> Optional[str]:
     """Tries a block, and returns what it needs and is not installed, for which it is passed over, or None."""
     needs = WITH.fullmatch(words)
-    if needs and not is_here(needs[2]):
-        return needs[2]
+    lacks = next((it for it in needs[2].split(",") if not is_here(it)), None) if needs else None
+    if lacks:
+        return lacks
     words = needs[1] if needs else words
     if kind == "lines of":
         try_lines(words, block)

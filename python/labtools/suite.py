@@ -1,6 +1,7 @@
 """Runs tests side by side: scripts whose logs were kept.
 
     tools/suite [-j N] [--junit FILE] [--tap] [--timeout S] [--most BYTES] [--update] FOLDER or SCRIPT ..
+    tools/suite --coverage FOLDER [-j N] [--junit FILE] .. FOLDER or SCRIPT ..
     tools/suite --shard PART [--times FILE] [-j N] [--junit FILE] .. FOLDER or SCRIPT ..
     tools/suite --merge [--junit FILE] RESULTS ..
 
@@ -9,6 +10,7 @@
   --tap         prints TAP 14 in place of the lines below
   --timeout S   ends a test that takes longer than S seconds; 300 by default, and 1000000 at most
   --most BYTES  ends a test that prints more; 100000000 by default
+  --coverage FOLDER  runs the tests by lab_probe, and writes which lines and functions were run (tools/coverage)
   --update      keeps what each test prints as its log
   --shard PART  runs a share of the tests, as 2/3: the second of three; each test is in one of them
   --times FILE  makes shares that take equal times, by the results of an earlier run (--junit)
@@ -38,7 +40,7 @@ import pathlib
 import sys
 from typing import List
 
-from labtools.suites import sessions, shards, suite_reports, trials
+from labtools.suites import sessions, shards, suite_coverage, suite_reports, trials
 
 # What this ends with where what it prints cannot be written.
 UNWRITTEN = 2
@@ -49,6 +51,7 @@ def parser() -> argparse.ArgumentParser:
     made.add_argument("--tap", action="store_true")
     made.add_argument("--update", action="store_true")
     made.add_argument("--times", type=pathlib.Path)
+    made.add_argument("--coverage", type=pathlib.Path)
     made.add_argument("--merge", action="store_true")
     made.add_argument("paths", nargs="*")
     return made
@@ -63,7 +66,8 @@ def run_tests(session: sessions.Session) -> int:
     given = session.given
     tests = trials.tests_in(given.paths)
     times = shards.times_in(given.times) if given.times else {}
-    trial = trials.Trials(session.runs(), sessions.tell, given.update)
+    coverage = suite_coverage.SuiteCoverage(given.coverage, sessions.tell) if given.coverage else None
+    trial = trials.Trials(session.runs(coverage), sessions.tell, given.update)
     share = shards.share_of(given.shard, {it: trial.scripts_before(it) for it in tests}, times) if given.shard else None
     tests = share.tests if share else tests
     report = report_to(given, len(tests))
@@ -71,6 +75,8 @@ def run_tests(session: sessions.Session) -> int:
     for outcome in trial.outcomes(tests, given.j):
         report.tell(outcome)
         outcomes.append(outcome)
+    if coverage:
+        coverage.write(session.room)
     return session.end(outcomes, report, share)
 
 
@@ -95,8 +101,8 @@ def main(words: List[str]) -> int:
     given = sessions.read_words(made, words)
     if not given.paths:
         made.error("which results?" if given.merge else "which tests?")
-    if given.merge and (given.shard or given.times or given.update):
-        made.error("--merge takes no --shard, --times or --update")
+    if given.merge and (given.shard or given.times or given.update or given.coverage):
+        made.error("--merge takes no --shard, --times, --update or --coverage")
     if given.times and not given.shard:
         made.error("--times is for --shard")
     return sessions.run(given, merge if given.merge else run_tests)

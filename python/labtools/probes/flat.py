@@ -11,7 +11,7 @@ KINDS = {"waits": "waited", "interrupt": "interrupts", "exception": "exceptions"
 
 def others_of(kinds: Mapping[str, int]) -> Dict[str, int]:
     """Returns the slots of a trace in which no instruction was retired, by their kinds in a profile."""
-    return {KINDS[kind]: count for kind, count in kinds.items() if kind in KINDS}
+    return {name: kinds[kind] for kind, name in KINDS.items() if kind in kinds}
 
 
 def rows_of(names: "Counter[str]", every: int, most: int) -> Iterator[str]:
@@ -26,8 +26,8 @@ def rows_of(names: "Counter[str]", every: int, most: int) -> Iterator[str]:
 
 def lines_of(name: str, counts: Mapping[int, int], others: Mapping[str, int], places: Places, most: int) -> List[str]:
     """Returns the profile of a processor by how often each instruction was retired, and its other slots."""
-    functions: Counter[str] = Counter({ROWS[kind]: count for kind, count in others.items() if count})
-    lines: Counter[str] = Counter()
+    functions: "Counter[str]" = Counter({ROWS[kind]: count for kind, count in others.items() if count})
+    lines: "Counter[str]" = Counter()
     for address, count in counts.items():
         frame = places.at(address)[-1]
         functions[frame.name] += count

@@ -17,8 +17,8 @@ def of_reading(reading: reads.Reading, saved: Dict[str, Names], folder: pathlib.
     names: Names = {board.name: [] for board in reading.boards}
     for read in reading.files:
         if read.kind == "snapshot":
-            for board, paths in saved.get(path_of(read.path, folder), {}).items():
-                names.setdefault(board, []).extend(paths)
+            for name, paths in saved.get(path_of(read.path, folder), {}).items():
+                names.setdefault(name, []).extend(paths)
     for board in reading.boards:
         names[board.name] += [os.path.join(folder, it.path) for it in board.files if it.kind == "elf" and it.is_there]
     return names

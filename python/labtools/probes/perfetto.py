@@ -1,5 +1,5 @@
-"""The calls of a board in the Trace Event Format, which Perfetto and Chrome show: a processor is a thread, and a slice a
-function that has not returned, or what a slot without an instruction was."""
+"""The calls of a board in the Trace Event Format, which Perfetto and Chrome show: a processor is a thread, and a slice
+a function that has not returned, or what a slot without an instruction was."""
 import json
 from typing import Dict, List, TextIO
 

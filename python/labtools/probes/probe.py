@@ -1,5 +1,5 @@
-"""The program lab_probe: where it stands, and its runs of scripts. A run writes what `lab run` would write: its log, and
-the snapshots that the script keeps."""
+"""The program lab_probe: where it stands, and its runs of scripts. A run writes what `lab run` would write: its log,
+and the snapshots that the script keeps."""
 import contextlib
 import os
 import pathlib

@@ -9,12 +9,15 @@ import subprocess
 import tempfile
 import threading
 import time
-from typing import BinaryIO, Iterator, Optional, Sequence, Set, cast
+from typing import BinaryIO, Callable, ContextManager, Iterator, Optional, Sequence, Set, cast
 
 # What has ended a run that did not end by itself.
 TIME, SIZE = "time", "size"
 
 PART = 2**16
+
+# Takes a script that was run to its end, and what lab_probe has told of the instructions.
+Heard = Callable[[str, BinaryIO], None]
 
 
 @dataclasses.dataclass(frozen=True)
@@ -31,10 +34,13 @@ class Ran:
 
 class Runs:
     """Runs of a program in one folder, each of so many seconds at most, and its log of so many bytes. Several threads
-    may use it."""
+    may use it. With `heard` the program is lab_probe, which counts instructions."""
 
-    def __init__(self, program: str, folder: pathlib.Path, seconds: float, most: int) -> None:
+    def __init__(
+        self, program: str, folder: pathlib.Path, seconds: float, most: int, heard: Optional[Heard] = None
+    ) -> None:
         self.program = program
+        self.heard = heard
         self.folder = folder
         self.seconds = seconds
         self.most = most
@@ -49,26 +55,33 @@ class Runs:
         prints."""
         begun = time.monotonic()
         seconds = self.seconds if seconds is None else seconds
-        with cast(BinaryIO, tempfile.TemporaryFile()) as log:
-            process = self.start([*words, "--", script])
+        with cast(BinaryIO, tempfile.TemporaryFile()) as log, self.told() as told:
+            process = self.start([*words, "--", script], told)
             try:
                 ended_by = self.wait(process, log, begun + seconds)
             finally:
                 self.end(process)
             status = None if ended_by else process.returncode
+            if self.heard and told and status == 0:
+                told.seek(0)
+                self.heard(script, told)
             yield Ran(status, ended_by, log, time.monotonic() - begun)
 
-    def start(self, words: Sequence[str]) -> "subprocess.Popen[bytes]":
+    def told(self) -> ContextManager[Optional[BinaryIO]]:
+        """A file for what is told of instructions, if somebody asks for that."""
+        return cast(BinaryIO, tempfile.TemporaryFile()) if self.heard else contextlib.nullcontext()
+
+    def start(self, words: Sequence[str], told: Optional[BinaryIO]) -> "subprocess.Popen[bytes]":
         """Starts a process with a group of its own, so that what it starts is ended with it."""
         with self.lock:
             if self.is_ended:
                 raise InterruptedError("no run is started any more")
             process = subprocess.Popen(
-                [self.program, "run", *words],
+                [self.program, *(["profile"] if told else []), "run", *words],
                 cwd=str(self.folder),
                 stdin=subprocess.DEVNULL,
                 stdout=subprocess.PIPE,
-                stderr=subprocess.DEVNULL,
+                stderr=told or subprocess.DEVNULL,
                 start_new_session=True,
             )
             self.under_way.add(process)

@@ -10,7 +10,7 @@ import threading
 from typing import Callable, List, NoReturn, Optional, Sequence, Union
 
 from labtools.common import escapes, plain_files, program, rooms
-from labtools.suites import kept_logs, lab_runs, shards, suite_reports
+from labtools.suites import kept_logs, lab_runs, shards, suite_coverage, suite_reports
 from labtools.suites.suite_reports import Outcome
 from labtools.suites.suite_tests import Undone
 
@@ -113,11 +113,13 @@ class Session:
     given: argparse.Namespace
     room: rooms.Room
 
-    def runs(self) -> lab_runs.Runs:
+    def runs(self, coverage: Optional[suite_coverage.SuiteCoverage] = None) -> lab_runs.Runs:
         """Runs in this folder, which a signal ends from now on."""
         given = self.given
-        runs = lab_runs.Runs(program.program_or(Undone), pathlib.Path.cwd(), given.timeout, given.most)
-        end_by_signals(runs, self.room)
+        path = coverage.program if coverage else program.program_or(Undone)
+        heard = coverage.take if coverage else None
+        runs = lab_runs.Runs(path, pathlib.Path.cwd(), given.timeout, given.most, heard)
+        end_by_signals(runs, self.room, coverage)
         return runs
 
     def end(self, outcomes: Sequence[Outcome], report: Report, share: Optional[shards.Share]) -> int:
@@ -132,9 +134,11 @@ class Session:
         return status_of(outcomes)
 
 
-def end_by_signals(runs: lab_runs.Runs, room: rooms.Room) -> None:
+def end_by_signals(
+    runs: lab_runs.Runs, room: rooms.Room, coverage: Optional[suite_coverage.SuiteCoverage] = None
+) -> None:
     """From now on a signal ends all runs and this program, whatever its threads wait for. A log that is being kept is
-    kept before. A signal that was ignored as this program was started, as by nohup, stays so.
+    kept before, and the coverage of what was run by then is written. A signal that was ignored as this program was started, as by nohup, stays so.
 
     A thread of its own waits for signals. A handler would run in the main thread, and only between two steps of
     Python: a signal that comes just before the main thread takes a lock is not heard until that lock is free."""
@@ -144,6 +148,8 @@ def end_by_signals(runs: lab_runs.Runs, room: rooms.Room) -> None:
     def end() -> NoReturn:
         os.read(told, 1)
         runs.end_all()
+        if coverage:
+            coverage.write(room)
         plain_files.REPLACING.acquire()
         room.close()
         os._exit(130)
