@@ -9,7 +9,7 @@ import subprocess
 import tempfile
 import threading
 import time
-from typing import BinaryIO, Callable, ContextManager, Iterator, Optional, Sequence, Set, cast
+from typing import BinaryIO, Callable, Iterator, Optional, Sequence, Set, cast
 
 # What has ended a run that did not end by itself.
 TIME, SIZE = "time", "size"
@@ -67,9 +67,14 @@ class Runs:
                 self.heard(script, told)
             yield Ran(status, ended_by, log, time.monotonic() - begun)
 
-    def told(self) -> ContextManager[Optional[BinaryIO]]:
+    @contextlib.contextmanager
+    def told(self) -> Iterator[Optional[BinaryIO]]:
         """A file for what is told of instructions, if somebody asks for that."""
-        return cast(BinaryIO, tempfile.TemporaryFile()) if self.heard else contextlib.nullcontext()
+        if not self.heard:
+            yield None
+            return
+        with cast(BinaryIO, tempfile.TemporaryFile()) as told:
+            yield told
 
     def start(self, words: Sequence[str], told: Optional[BinaryIO]) -> "subprocess.Popen[bytes]":
         """Starts a process with a group of its own, so that what it starts is ended with it."""
