@@ -8,6 +8,7 @@ from typing import Dict, Iterable, Iterator, List, Optional, Tuple
 from xml.etree import ElementTree
 
 from labtools.common import plain_files, rooms
+from labtools.common.escapes import shown
 from labtools.probes.covered import File, Files, folder_of, hits_of
 
 INFO, XML, PAGES = "coverage.info", "cobertura.xml", "html"
@@ -45,7 +46,7 @@ def named(file: File) -> Dict[Tuple[int, str], str]:
 
 def info(files: Files) -> str:
     lines = [line for path in sorted(files) for line in info_of(path, files[path])]
-    return "".join(f"{line}\n" for line in ["TN:", *lines])
+    return "".join(f"{shown(line)}\n" for line in ["TN:", *lines])
 
 
 def read_info(path: str) -> Files:
@@ -58,7 +59,7 @@ def read_info(path: str) -> Files:
     file: Optional[File] = None
     begins: Dict[str, int] = {}
     for number, line in enumerate(text.splitlines(), 1):
-        if line.startswith("SF:"):
+        if line.startswith("SF:") and len(line) > 3:
             file, begins = files.setdefault(os.path.relpath(line[3:]), File()), {}
         elif file is not None:
             take(file, begins, line)
@@ -104,10 +105,10 @@ def add_line(parent: ElementTree.Element, line: int, count: int) -> None:
 
 def add_class(parent: ElementTree.Element, path: str, file: File) -> None:
     """Adds a source as a class, whose methods are its functions."""
-    made = measured(parent, "class", [file], name=os.path.basename(path), filename=path)
+    made = measured(parent, "class", [file], name=shown(os.path.basename(path)), filename=shown(path))
     methods = ElementTree.SubElement(made, "methods")
     for (line, label), count in sorted(file.functions.items()):
-        words = {"name": label, "signature": "", "line-rate": rate(int(count > 0), 1), "branch-rate": "0"}
+        words = {"name": shown(label), "signature": "", "line-rate": rate(int(count > 0), 1), "branch-rate": "0"}
         lines = ElementTree.SubElement(ElementTree.SubElement(methods, "method", words), "lines")
         add_line(lines, line, count)
     lines = ElementTree.SubElement(made, "lines")
@@ -121,11 +122,11 @@ def document(files: Files) -> ElementTree.Element:
     words = {"line-rate": rate(hit, found), "lines-covered": str(hit), "lines-valid": str(found), "timestamp": "0"}
     words.update({"branch-rate": "0", "branches-covered": "0", "branches-valid": "0"})
     root = ElementTree.Element("coverage", {**words, "complexity": "0", "version": "1"})
-    ElementTree.SubElement(ElementTree.SubElement(root, "sources"), "source").text = os.getcwd()
+    ElementTree.SubElement(ElementTree.SubElement(root, "sources"), "source").text = shown(os.getcwd())
     packages = ElementTree.SubElement(root, "packages")
     for folder in sorted({folder_of(path) for path in files}):
         own = {path: file for path, file in sorted(files.items()) if folder_of(path) == folder}
-        package = measured(packages, "package", own.values(), name=folder.replace("/", "."))
+        package = measured(packages, "package", own.values(), name=shown(folder).replace("/", "."))
         classes = ElementTree.SubElement(package, "classes")
         for path, file in own.items():
             add_class(classes, path, file)
