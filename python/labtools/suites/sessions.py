@@ -138,7 +138,8 @@ def end_by_signals(
     runs: lab_runs.Runs, room: rooms.Room, coverage: Optional[suite_coverage.SuiteCoverage] = None
 ) -> None:
     """From now on a signal ends all runs and this program, whatever its threads wait for. A log that is being kept is
-    kept before, and the coverage of what was run by then is written. A signal that was ignored as this program was started, as by nohup, stays so.
+    kept before, and the coverage of what was run by then is written. A signal that was ignored as this program was
+    started, as by nohup, stays so.
 
     A thread of its own waits for signals. A handler would run in the main thread, and only between two steps of
     Python: a signal that comes just before the main thread takes a lock is not heard until that lock is free."""
