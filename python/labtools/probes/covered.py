@@ -7,9 +7,8 @@ linked into.
 """
 import os
 import pathlib
-from collections import Counter
 from dataclasses import dataclass, field
-from typing import Dict, Iterable, Iterator, List, Optional, Tuple
+from typing import Counter, Dict, Iterable, Iterator, List, Optional, Tuple
 
 from labtools.elf.elf import short
 from labtools.elf.sources import Sources
@@ -99,9 +98,9 @@ class Covered:
 
     def __init__(self, found: images.Images) -> None:
         self.images = found
-        self.ran: Dict[str, "Counter[int]"] = {}
+        self.ran: Dict[str, Counter[int]] = {}
         # instructions that lie in no ELF file, by board
-        self.unknown: "Counter[str]" = Counter()
+        self.unknown: Counter[str] = Counter()
         # sources that are not there
         self.missing: Dict[str, None] = {}
         # what was read of earlier calls
@@ -151,7 +150,7 @@ class Covered:
 
 def without_lines(sources: Sources, ran: Dict[int, int]) -> Iterator[str]:
     """Yields which functions of an ELF file were run that have no lines, as those of libraries."""
-    names: "Counter[str]" = Counter()
+    names: Counter[str] = Counter()
     for address, count in ran.items():
         if sources.line_at(address) is None:
             symbol = sources.elf.function_at(address)

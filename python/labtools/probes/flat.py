@@ -1,6 +1,5 @@
 """A flat profile: in which functions, and on which lines, the slots of a processor were spent."""
-from collections import Counter
-from typing import Dict, Iterator, List, Mapping
+from typing import Counter, Dict, Iterator, List, Mapping
 
 from labtools.probes.calls import Places
 
@@ -14,7 +13,7 @@ def others_of(kinds: Mapping[str, int]) -> Dict[str, int]:
     return {name: kinds[kind] for kind, name in KINDS.items() if kind in kinds}
 
 
-def rows_of(names: "Counter[str]", every: int, most: int) -> Iterator[str]:
+def rows_of(names: Counter[str], every: int, most: int) -> Iterator[str]:
     """Yields the largest of the rows, each with its share of all slots."""
     found = sorted(names.items(), key=lambda it: (-it[1], it[0]))
     for name, count in found[:most]:
@@ -26,8 +25,8 @@ def rows_of(names: "Counter[str]", every: int, most: int) -> Iterator[str]:
 
 def lines_of(name: str, counts: Mapping[int, int], others: Mapping[str, int], places: Places, most: int) -> List[str]:
     """Returns the profile of a processor by how often each instruction was retired, and its other slots."""
-    functions: "Counter[str]" = Counter({ROWS[kind]: count for kind, count in others.items() if count})
-    lines: "Counter[str]" = Counter()
+    functions: Counter[str] = Counter({ROWS[kind]: count for kind, count in others.items() if count})
+    lines: Counter[str] = Counter()
     for address, count in counts.items():
         frame = places.at(address)[-1]
         functions[frame.name] += count
