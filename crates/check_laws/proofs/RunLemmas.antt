@@ -13,7 +13,7 @@ use Rattle.lab_state.specs.Board.{Board}
 use Rattle.lab_state.specs.Boundary.{boundary, due, waiting}
 use Rattle.lab_state.specs.Hub.{Hub, members_of}
 use Rattle.lab_state.specs.Lab.{Lab}
-use Rattle.lab_state.specs.Round.{Rounded, round, round_by, granted, posts_made, stepped}
+use Rattle.lab_state.specs.Round.{Rounded, round, round_watched, granted, posts_made, stepped}
 use Rattle.lab_state.specs.Run.{run, run_by, go_on, still, lengths}
 use Rattle.lab_state.proofs.RoundLemmas.{map-routes}
 use Rattle.check_laws.specs.Standing.{Standing, standing}
@@ -47,7 +47,7 @@ same_lab lab = record { boards = refl; hubs = refl; now = le_refl lab.now }
 
 module _ (plans : (v : View) (from a n : ℕ) → (stretch v from a n).view.space.plan ≡ v.space.plan) where
   round_later : (lab : Lab) (q : ℕ) → IsLater lab (round lab q).lab
-  unfolding round_by
+  unfolding round_watched
   round_later lab q =
       let to = lab.now + q in
       let stepped_all = map (stepped (granted lab.now to)) lab.boards in

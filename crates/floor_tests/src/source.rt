@@ -18,7 +18,7 @@ fn pair(speeds: (u32, u32)) -> Option<Source>
 }
 
 /// Uses so many slots of a member's handle, or all that are left, and gives its report.
-fn play(source: &mut Source, board: BoardNo, slots: u64) -> Report
+fn use_slots(source: &mut Source, board: BoardNo, slots: u64) -> Report
     requires opened { source.old.is_open ≡ true }
     requires member { board.0 < length source.old.handles }
     ensures opened { source.new.is_open ≡ true }
@@ -32,10 +32,10 @@ fn play(source: &mut Source, board: BoardNo, slots: u64) -> Report
 }
 
 /// What a grant came to: the members' reports, the time, and whether it was done and so was closed.
-type Played = (Report, Report, Micros, bool);
+type Reports = (Report, Report, Micros, bool);
 
 /// A grant of so many microseconds, of which the members use so many slots.
-fn grant(source: &mut Source, micros: u64, slots: (u64, u64)) -> Played
+fn grant(source: &mut Source, micros: u64, slots: (u64, u64)) -> Reports
     requires closed { source.old.is_open ≡ false }
     requires members { length source.old.handles ≡ 2 }
     requires last { source.old.end + micros ≤ 10 ^ 10 }
@@ -44,8 +44,8 @@ fn grant(source: &mut Source, micros: u64, slots: (u64, u64)) -> Played
     ensures end { source.new.end ≡ source.old.end + micros }
 {
     source.grant(micros);
-    let first = play(source, BoardNo(0), slots.0);
-    let second = play(source, BoardNo(1), slots.1);
+    let first = use_slots(source, BoardNo(0), slots.0);
+    let second = use_slots(source, BoardNo(1), slots.1);
     let time = source.elapsed();
     let done = source.is_done();
     if done {
@@ -62,7 +62,7 @@ fn second_grant(
     then: (u32, u32),
     second: u64,
     slots: (u64, u64),
-) -> Option<(Played, Micros)> {
+) -> Option<(Reports, Micros)> {
     let mut source = pair(speeds)?;
     let begun = grant(&mut source, first.min(1_000), (u64::MAX, u64::MAX));
     if !begun.3 {
@@ -70,8 +70,8 @@ fn second_grant(
     }
     source.set_speed(BoardNo(0), then.0.clamp(1, 1_000));
     source.set_speed(BoardNo(1), then.1.clamp(1, 1_000));
-    let played = grant(&mut source, second.min(1_000), slots);
-    Some((played, source.elapsed()))
+    let reports_of_second = grant(&mut source, second.min(1_000), slots);
+    Some((reports_of_second, source.elapsed()))
 }
 
 const NONE: (Report, Report) = (Report::Break, Report::Break);
@@ -111,8 +111,8 @@ static GRANTS: [Row; 12] = [
 
 fn comes_to((speeds, first, then, second, slots, reports, time): Row) -> bool {
     let time = Micros(time);
-    let played = (reports.0, reports.1, time, reports == BOTH);
-    second_grant(speeds, first, then, second, slots) == Some((played, time))
+    let reports_of_second = (reports.0, reports.1, time, reports == BOTH);
+    second_grant(speeds, first, then, second, slots) == Some((reports_of_second, time))
 }
 
 #[test]
@@ -131,10 +131,10 @@ type Pieces = (Report, Report, Micros, Report, Micros);
 fn in_pieces(speeds: (u32, u32), micros: u64, slots: (u64, u64, u64)) -> Option<(Pieces, bool)> {
     let mut source = pair(speeds)?;
     source.grant(micros.min(10_000_000_000));
-    let first = play(&mut source, BoardNo(0), slots.0);
-    let second = play(&mut source, BoardNo(1), slots.1);
+    let first = use_slots(&mut source, BoardNo(0), slots.0);
+    let second = use_slots(&mut source, BoardNo(1), slots.1);
     let before = source.elapsed();
-    let third = play(&mut source, BoardNo(0), slots.2);
+    let third = use_slots(&mut source, BoardNo(0), slots.2);
     let pieces = (first, second, before, third, source.elapsed());
     Some((pieces, source.is_done()))
 }

@@ -8,7 +8,7 @@ use Rattle.board.specs.View.{View, core_at}
 use Rattle.log_text.specs.Number.{word}
 use Rattle.lab_state.specs.Board.{Board}
 use Rattle.lab_state.specs.Lab.{Lab}
-use Rattle.lab_state.specs.Run.{Play}
+use Rattle.lab_state.specs.Run.{Runner}
 use Rattle.lab_gen.specs.Generated.{generated}
 
 abbrev pub no_board : Board
@@ -36,6 +36,6 @@ abbrev pub summary : Lab → List ℕ
 summary lab =
     flat_map line_of lab.boards ++ codes "total " ++ decimal (sum (map posts_of lab.boards)) ++ codes "\n"
 
--- the summary of the generated laboratory after 100,000 microseconds, where a laboratory plays a run so
-unfoldable pub summary_of : Play → ℕ → ℕ → List ℕ
-summary_of play seed boards = summary (play (generated seed boards) 100000).lab
+-- the summary of the generated laboratory after 100,000 microseconds, where a laboratory makes a run so
+unfoldable pub summary_of : Runner → ℕ → ℕ → List ℕ
+summary_of runner seed boards = summary (runner (generated seed boards) 100000).lab

@@ -19,7 +19,7 @@ use std::thread::Threads;
 const LENGTH: Micros = Micros(100_000);
 
 /// Runs a laboratory that stands at time 0, each of whose boards has a plan.
-fn play<R: Threads + Wait + Copy + Send + Sync, D: Device + Send, G: Gate>(
+fn run_generated<R: Threads + Wait + Copy + Send + Sync, D: Device + Send, G: Gate>(
     rt: &R,
     lab: &mut Lab<D>,
     workers: u8,
@@ -60,6 +60,6 @@ pub fn generate<R: Threads + Wait + Copy + Send + Sync, D: Device + Send, G: Gat
     ensures { IfOk result (λ bytes. bytes.items ≡ summary_of run seed boards) }
 {
     let mut lab = laboratory(alloc, seed, boards, stock)?;
-    play(rt, &mut lab, workers, gate)?;
+    run_generated(rt, &mut lab, workers, gate)?;
     summary(alloc, &lab)
 }

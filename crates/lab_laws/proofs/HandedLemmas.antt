@@ -30,7 +30,7 @@ use Rattle.lab_state.specs.Undelayed.{AreUndelayed, undelayed_boundary, undelaye
 use Rattle.lab_laws.proofs.UndelayedLemmas.{undelayed_is}
 use Rattle.lab_state.proofs.ReachedLemmas.{IsReached}
 use Rattle.lab_state.specs.Pending.{is_of_a_hub, due_at, is_due, IsPending, ArePending}
-use Rattle.lab_state.specs.Round.{round, round_by, stepped, granted, ended}
+use Rattle.lab_state.specs.Round.{round, round_watched, stepped, granted, ended}
 use Rattle.lab_state.specs.Inner.End.{in_round}
 use Rattle.lab_state.specs.Inner.Time.{numbers_of, AreStanding}
 use Rattle.lab_state.proofs.PendingLemmas.{AreOfRound, earlier, rising-filter, waiting-is, waiting_rise, pending-after}
@@ -89,11 +89,11 @@ module _ (is : (key : Post → Key) (items : List Post) → KeysDiffer key items
 
     -- the laboratory after the round is as right
     pending-next : (round lab q).lab.pending ≡ not_due (lab.now + q) lab.hubs (all_at lab q)
-    unfolding round_by boundary
+    unfolding round_watched boundary
     pending-next = refl
 
     reached-next : IsReached (round lab q).lab
-    unfolding round_by boundary
+    unfolding round_watched boundary
     reached-next = record {
       pending = pending-after is only (lab.now + q) (sent_in lab q) reached.pending differ made (omega arith);
       standing =
@@ -103,18 +103,18 @@ module _ (is : (key : Post → Key) (items : List Post) → KeysDiffer key items
     }
 
     now-next : (round lab q).lab.now ≡ lab.now + q
-    unfolding round_by
+    unfolding round_watched
     now-next = refl
 
     hubs-next : (round lab q).lab.hubs ≡ lab.hubs
-    unfolding round_by
+    unfolding round_watched
     hubs-next = refl
 
   -- where no hub holds anything back and nothing waits
   pub round-undelayed :
       (lab : Lab) (q : ℕ) → IsReached lab → lab.now + q ≤ 10000000000 → AreUndelayed lab.hubs → lab.pending ≡ [] →
       round lab q ≡ undelayed_round lab q
-  unfolding round_by
+  unfolding round_watched
   round-undelayed lab q reached within undelayed none =
       let boards = map (stepped (in_round lab.now q)) lab.boards in
       let same : boundary (lab.now + q) lab.hubs (map (stepped (in_round lab.now q)) lab.boards) lab.pending
@@ -134,7 +134,7 @@ module _ (is : (key : Post → Key) (items : List Post) → KeysDiffer key items
   rest_so :
       (lab : Lab) (q : ℕ) (qs : List ℕ) → lab.now + sum (q ∷ qs) ≤ 10000000000 →
       (round lab q).lab.now + sum qs ≤ 10000000000
-  unfolding round_by
+  unfolding round_watched
   rest_so lab q qs within = rest_within lab.now q qs within
 
   -- what holds of the posts that wait, and of all that are sent from now on, holds of all that is handed over

@@ -4,7 +4,7 @@ ghost use Rattle.std.specs.Prelude.{All, IsSome};
 ghost use Rattle.lab_state.specs.Boundary.{boundary};
 ghost use Rattle.lab_state.specs.Lab.{Lab as Laboratory};
 ghost use Rattle.lab_state.specs.Round.{round};
-ghost use Rattle.lab_state.specs.Run.{Play, run, run_by, lengths, still, EndsIn};
+ghost use Rattle.lab_state.specs.Run.{Runner, run, run_by, lengths, still, EndsIn};
 ghost use Rattle.lab_state.specs.Valid.{is_shown_before};
 ghost use Rattle.log_text.specs.Log.{IsOnBytes};
 
@@ -14,8 +14,8 @@ use lab_state::Lab;
 /// A run that has a pause ends in the round in which it was asked for: no round before has one, and
 /// none comes after.
 pub fn runs_end()
-    ensures { (play : Play) (lab : Laboratory) (d : ℕ) → IsSome (run_by play lab d).paused →
-        (n : ℕ) × EndsIn play lab (lengths lab.quantum d) (run_by play lab d) n }
+    ensures { (runner : Runner) (lab : Laboratory) (d : ℕ) → IsSome (run_by runner lab d).paused →
+        (n : ℕ) × EndsIn runner lab (lengths lab.quantum d) (run_by runner lab d) n }
 {}
 
 /// A run of no time has no boundary, so nothing is handed over by it: it changes nothing.

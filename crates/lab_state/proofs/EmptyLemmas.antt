@@ -5,7 +5,7 @@ use Rattle.std.proofs.lemmas.List.Sums.{sum_by-cons}
 use Rattle.lab_num.specs.Listing.{listing}
 use Rattle.lab_state.specs.Boundary.{boundary}
 use Rattle.lab_state.specs.Lab.{Lab}
-use Rattle.lab_state.specs.Round.{round_by, round}
+use Rattle.lab_state.specs.Round.{round_watched, round}
 use Rattle.lab_state.specs.Run.{lengths, go_on, still, run_by, run}
 use Rattle.lab_state.proofs.RunLemmas.{sum-lengths}
 
@@ -15,7 +15,7 @@ later lab d = record lab { now = lab.now + d }
 
 pub empty-round :
     (lab : Lab) (q : ℕ) → lab.boards ≡ [] → lab.pending ≡ [] → round lab q ≡ still (later lab q)
-unfolding round_by boundary listing
+unfolding round_watched boundary listing
 empty-round lab q none nothing = rw (none, nothing) refl
 
 empty-rounds :

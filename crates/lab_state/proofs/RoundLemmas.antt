@@ -37,8 +37,8 @@ use Rattle.lab_state.specs.Boundary.{Handed, to_member, to_route, to_routes}
 use Rattle.lab_state.specs.Hub.{Hub, members_of}
 use Rattle.lab_state.specs.Lab.{Lab}
 use Rattle.lab_state.specs.One.{with_view, first_without}
-use Rattle.lab_state.specs.Round.{stepped, posts_made, entries_made, round_by, round}
-use Rattle.lab_state.specs.Inner.End.{Played, in_round, played}
+use Rattle.lab_state.specs.Round.{stepped, posts_made, entries_made, round_watched, round}
+use Rattle.lab_state.specs.Inner.End.{RoundMade, in_round, round_made}
 use Rattle.lab_state.specs.Inner.Standing.{Outline, outline, outlines}
 use Rattle.lab_state.specs.Inner.Standing.{kind_of_outline, kind_in, IsDevice, AreMembers, AreDevices}
 use Rattle.lab_state.specs.Inner.Time.{number_of, numbers_of, speed_of, IsStanding, StandsAt, AreStanding}
@@ -318,16 +318,16 @@ plans_kept boards others same =
         is_none-map : (o : Option View) → is_none o ≡ is_none (option_map (λ v. v.space.plan.kinds) o)
         is_none-map o = grind (arith, common_steps)
 
--- a round, as it is played
+-- a round, as it is made
 pub round_is :
-    (lab : Lab) (q : ℕ) {p : Played} → p ≡ played lab.now q lab.hubs lab.boards lab.pending →
+    (lab : Lab) (q : ℕ) {p : RoundMade} → p ≡ round_made lab.now q lab.hubs lab.boards lab.pending →
     round lab q
     ≡ record {
       lab = record lab { boards = p.boards; pending = p.pending; now = lab.now + q };
       items = p.items;
       paused = p.paused;
     }
-unfolding round_by
+unfolding round_watched
 round_is lab q is = rw is refl
 
 -- a list that is written whole over another

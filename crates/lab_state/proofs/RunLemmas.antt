@@ -12,8 +12,8 @@ use Rattle.std.proofs.lemmas.Nat.{div-add-mod'}
 use Rattle.std.proofs.Math.Nat.{mul-add-mod_self_left, mul-add-div, div-add-mod, div-eq_of_lt, mod-eq_of_lt}
 use Rattle.std.proofs.Math.Nat.{add-div_left, add-mod_left, zero-div, zero-mod}
 use Rattle.lab_state.specs.Lab.{Lab}
-use Rattle.lab_state.specs.Round.{Rounded, round_by, round}
-use Rattle.lab_state.specs.Run.{Play, rest_of, lengths, followed_by, go_on, still, run_by, run}
+use Rattle.lab_state.specs.Round.{Rounded, round_watched, round}
+use Rattle.lab_state.specs.Run.{Runner, rest_of, lengths, followed_by, go_on, still, run_by, run}
 
 on_quantum :
     (paused : Bool) (run more : Rounded) → more.lab.quantum ≡ run.lab.quantum →
@@ -22,7 +22,7 @@ on_quantum paused run more is = grind (arith, is)
 
 -- rounds leave the quantum
 same_quantum : (run : Rounded) (qs : List ℕ) → (fold (go_on round) run qs).lab.quantum ≡ run.lab.quantum
-unfolding round_by
+unfolding round_watched
 same_quantum run [] = refl
 same_quantum run (q ∷ qs) =
     same_quantum (go_on round run q) qs ∙ on_quantum (is_some run.paused) run (round run.lab q) refl
@@ -123,7 +123,7 @@ first_length q d {n = n} some more least = elim (cases_lt d q) [
 
 -- the time after a round
 pub round_time : (lab : Lab) (q : ℕ) → (round lab q).lab.now ≡ lab.now + q
-unfolding round_by
+unfolding round_watched
 round_time lab q = refl
 
 -- one round more, as long as there is no pause
@@ -140,8 +140,8 @@ one_round_more q d run {n = n} some more unpaused least is =
 
 -- a run that has paused goes on no more
 pub after_pause :
-    (play : Play) (run : Rounded) (qs : List ℕ) → is_some run.paused ≡ true → fold (go_on play) run qs ≡ run
-after_pause play run [] is = refl
-after_pause play run (q ∷ qs) is =
-    let stays : go_on play run q ≡ run = rw is refl in
-    ap (λ run. fold (go_on play) run qs) stays ∙ after_pause play run qs is
+    (runner : Runner) (run : Rounded) (qs : List ℕ) → is_some run.paused ≡ true → fold (go_on runner) run qs ≡ run
+after_pause runner run [] is = refl
+after_pause runner run (q ∷ qs) is =
+    let stays : go_on runner run q ≡ run = rw is refl in
+    ap (λ run. fold (go_on runner) run qs) stays ∙ after_pause runner run qs is

@@ -46,7 +46,7 @@ use Rattle.lab_state.specs.Lab.{Lab}
 use Rattle.lab_state.specs.One.{view_at, with_view}
 use Rattle.lab_state.specs.Pending.{finish_of, is_finish}
 use Rattle.lab_state.specs.Round.{Rounded, stepped, entries_made, item_of, slot_items, pause_items}
-use Rattle.lab_state.specs.Round.{round_by, round}
+use Rattle.lab_state.specs.Round.{round_watched, round}
 use Rattle.lab_state.specs.Run.{lengths, followed_by, go_on, still, run_by, run}
 use Rattle.lab_state.specs.Valid.{is_shown_uart, is_shown_before, IsOpen}
 use Rattle.lab_state.specs.Inner.End.{in_round}
@@ -270,7 +270,7 @@ module _ (number : Numbering) (time : EntryTiming) (tell : Telling) (kinds : Kin
 
   -- a round leaves which devices are shown UARTs
   uarts-round : (lab : Lab) (q : ℕ) → uarts_of (round lab q).lab.boards ≡ uarts_of lab.boards
-  unfolding round_by boundary
+  unfolding round_watched boundary
   uarts-round lab q =
       map-routes uarts (λ dev payload. uarts-same (λ v. handed v dev payload) (handed-uart dev payload)) (lab.now + q)
       (members_of lab.hubs) (record { boards = map (stepped (in_round lab.now q)) lab.boards; notes = [] })
@@ -283,7 +283,7 @@ module _ (number : Numbering) (time : EntryTiming) (tell : Telling) (kinds : Kin
   standing-round :
       (lab : Lab) (q : ℕ) → lab.now + q ≤ 10000000000 → AreStanding (1000 * lab.now) (numbers_of lab.boards) →
       AreStanding (1000 * (round lab q).lab.now) (numbers_of (round lab q).lab.boards)
-  unfolding round_by boundary
+  unfolding round_watched boundary
   standing-round lab q within are =
       rw (numbers-routes (lab.now + q) lab.hubs (map (stepped (in_round lab.now q)) lab.boards) (handed_in lab q))
       (standing number lab.now q within lab.boards are)
@@ -291,7 +291,7 @@ module _ (number : Numbering) (time : EntryTiming) (tell : Telling) (kinds : Kin
   told-round :
       (lab : Lab) (q : ℕ) → lab.now + q ≤ 10000000000 → AreStanding (1000 * lab.now) (numbers_of lab.boards) →
       All (IsOnBytes (is_before (uarts_of lab.boards) (lab.now + q))) (round lab q).items
-  unfolding round_by boundary
+  unfolding round_watched boundary
   told-round lab q within are =
       let p = is_before (uarts_of lab.boards) (lab.now + q) in
       let boards = map (stepped (in_round lab.now q)) lab.boards in
@@ -305,7 +305,7 @@ module _ (number : Numbering) (time : EntryTiming) (tell : Telling) (kinds : Kin
       (paused_at p (lab.now + q) pause)
 
   now-round : (lab : Lab) (q : ℕ) → (round lab q).lab.now ≡ lab.now + q
-  unfolding round_by
+  unfolding round_watched
   now-round lab q = refl
 
   -- ---- runs

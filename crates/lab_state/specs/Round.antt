@@ -72,9 +72,9 @@ ended grant end lab q = record {
 }
 
 -- a round of this length, of which the boards make this
-unfoldable pub round_by : Grant → Lab → ℕ → Rounded
-round_by grant lab q = ended grant (met (grant lab.now (lab.now + q)) (lab.now + q) lab) lab q
+unfoldable pub round_watched : Grant → Lab → ℕ → Rounded
+round_watched grant lab q = ended grant (met (grant lab.now (lab.now + q)) (lab.now + q) lab) lab q
 
 -- a round of this length
 abbrev pub round : Lab → ℕ → Rounded
-round lab q = round_by granted lab q
+round lab q = round_watched granted lab q

@@ -5,8 +5,8 @@ use Rattle.lab_state.specs.Lab.{Lab}
 use Rattle.lab_state.specs.Round.{Rounded, round}
 
 -- what a laboratory comes to in a length of time
-abbrev pub Play : Type 0
-Play = Lab → ℕ → Rounded
+abbrev pub Runner : Type 0
+Runner = Lab → ℕ → Rounded
 
 -- the length of the round of what is left, if something is
 abbrev pub rest_of : ℕ → List ℕ
@@ -21,26 +21,26 @@ abbrev pub followed_by : Rounded → Rounded → Rounded
 followed_by run more = record { lab = more.lab; items = run.items ++ more.items; paused = more.paused }
 
 -- a round more, unless the run has paused
-abbrev pub go_on : Play → Rounded → ℕ → Rounded
-go_on play run q = if is_some run.paused then run else followed_by run (play run.lab q)
+abbrev pub go_on : Runner → Rounded → ℕ → Rounded
+go_on runner run q = if is_some run.paused then run else followed_by run (runner run.lab q)
 
 -- no round
 abbrev pub still : Lab → Rounded
 still lab = record { lab = lab; items = []; paused = None }
 
 -- what the first so many of these rounds come to
-abbrev pub rounds : Play → Lab → List ℕ → ℕ → Rounded
-rounds play lab qs n = fold (go_on play) (still lab) (take n qs)
+abbrev pub rounds : Runner → Lab → List ℕ → ℕ → Rounded
+rounds runner lab qs n = fold (go_on runner) (still lab) (take n qs)
 
 -- The run of rounds of these lengths has a pause of round `n`: before that round there was none, and it is the last.
-pub record EndsIn (play : Play) (lab : Lab) (qs : List ℕ) (run : Rounded) (n : ℕ) : Type 0 where
+pub record EndsIn (runner : Runner) (lab : Lab) (qs : List ℕ) (run : Rounded) (n : ℕ) : Type 0 where
   pub within : n < length qs
-  pub none_before : (rounds play lab qs n).paused ≡ None
-  pub last : run ≡ rounds play lab qs (n + 1)
+  pub none_before : (rounds runner lab qs n).paused ≡ None
+  pub last : run ≡ rounds runner lab qs (n + 1)
 
--- a run of this length whose rounds are played so
-unfoldable pub run_by : Play → Lab → ℕ → Rounded
-run_by play lab d = fold (go_on play) (still lab) (lengths lab.quantum d)
+-- a run of this length whose rounds are made so
+unfoldable pub run_by : Runner → Lab → ℕ → Rounded
+run_by runner lab d = fold (go_on runner) (still lab) (lengths lab.quantum d)
 
 -- a run of this length
 abbrev pub run : Lab → ℕ → Rounded

@@ -4,7 +4,7 @@ use Rattle.lab_num.specs.Paid.{paid}
 use Rattle.board.specs.View.{View}
 use Rattle.board.specs.Stretch.{in_turns}
 use Rattle.lab_state.specs.Lab.{Lab}
-use Rattle.lab_state.specs.Round.{Grant, Rounded, round_by}
+use Rattle.lab_state.specs.Round.{Grant, Rounded, round_watched}
 use Rattle.lab_state.specs.Run.{run_by}
 
 -- for the microsecond at which a grant begins, a board and the slots that the grant pays it: the lengths of its turns
@@ -21,4 +21,4 @@ granted_in_turns cut from to v = in_turns v from 0 (cut from v (paid from to v.n
 
 -- a run in turns
 abbrev pub run_in_turns : Cut → Lab → ℕ → Rounded
-run_in_turns cut lab d = run_by (round_by (granted_in_turns cut)) lab d
+run_in_turns cut lab d = run_by (round_watched (granted_in_turns cut)) lab d

@@ -8,7 +8,7 @@ ghost use Rattle.lab_num.specs.Key.{KeysDiffer};
 ghost use Rattle.lab_num.specs.Listing.{listing};
 ghost use Rattle.dev_core.specs.Post.{entry_key, post_key};
 ghost use Rattle.log_merge.specs.Merge.{all_entries};
-ghost use Rattle.lab_state.specs.Inner.End.{Played, in_round, played};
+ghost use Rattle.lab_state.specs.Inner.End.{RoundMade, in_round, round_made};
 ghost use Rattle.lab_state.specs.Inner.Standing.{outlines, AreDevices, IsFromBoard};
 ghost use Rattle.lab_state.specs.Inner.Time.{numbers_of, AreStanding, IsTimed, part_of, used_up};
 ghost use Rattle.lab_state.specs.One.{first_without, HaveAllPlans};
@@ -30,7 +30,7 @@ use board_job::BoxedBoardJob;
 use dev_core::{Device, Entry, Post};
 use floor_run::Gate;
 use lab_num::{BoardNo, Key, Micros, NoMemory, Rows, listing_laws};
-use log_merge::{LogItem, Member0, merge_entries, merge_posts};
+use log_merge::{BoardTime, LogItem, merge_entries, merge_posts};
 use probe_jobs::{Unwatched, Watcher};
 use std::alloc::Global;
 use std::sync::Wait;
@@ -101,7 +101,7 @@ fn use_up(source: &mut Source, members: usize)
 fn item_of(entry: &Entry) -> LogItem
     ensures { result ≡ round_spec.item_of entry.now }
 {
-    let slot = Member0 {
+    let slot = BoardTime {
         at: entry.key.at,
         board: entry.key.board,
     };
@@ -322,7 +322,7 @@ fn push_end(
 }
 
 /// Runs the boards for a round of `q` microseconds, and hands over what is due by then.
-fn play<
+fn round_on<
     R: Threads + Wait + Copy + Send + Sync,
     D: Device + Send,
     G: Gate,
@@ -349,14 +349,14 @@ fn play<
     ensures end { OnOk result (source.new.end ≡ source.old.end + q) }
     ensures timed { OnOk result (IsTimed source.new (numbers_of boards.new)) }
     ensures outlines { OnOk result (outlines boards.new ≡ outlines boards.old) }
-    ensures played { IfOk result (λ log. ◌≡◌ {A = Played}
+    ensures round_made { IfOk result (λ log. ◌≡◌ {A = RoundMade}
         (record {
           boards = boards.new;
           pending = pending.new.items;
           items = log.lines;
           paused = log.paused;
         })
-        (played source.old.end q hubs.now boards.old pending.old.items)) }
+        (round_made source.old.end q hubs.now boards.old pending.old.items)) }
     ensures pending { OnOk result (ArePending hubs.now source.new.end pending.new.items) }
     ensures sent { OnOk result (All (IsFromBoard (outlines boards.new) (numbers_of boards.new))
         pending.new.items) }
@@ -382,7 +382,11 @@ impl<D: Device + Send> Lab<D> {
     /// Runs one round of `q` microseconds as `round` does. Its workers are the caller and the helpers of the team,
     /// if it has any. A watcher who wants to be shown the boards has the caller run them alone, in order of time. The
     /// round is the same whoever watches. `LabFault::Memory` spends the laboratory.
-    pub fn round_by<R: Threads + Wait + Copy + Send + Sync, G: Gate, W: Watcher<BoxedBoardJob<D>>>(
+    pub fn round_watched<
+        R: Threads + Wait + Copy + Send + Sync,
+        G: Gate,
+        W: Watcher<BoxedBoardJob<D>>,
+    >(
         &mut self,
         rt: &R,
         team: &Team<D>,
@@ -413,7 +417,7 @@ impl<D: Device + Send> Lab<D> {
             workers,
             gate,
         };
-        let Ok(log) = play(
+        let Ok(log) = round_on(
             crew,
             watcher,
             self.alloc,
@@ -455,6 +459,6 @@ impl<D: Device + Send> Lab<D> {
     {
         let team = Team::none();
         let mut unwatched = Unwatched::<BoxedBoardJob<D>>::new(self.alloc);
-        self.round_by(rt, &team, q, workers, gate, &mut unwatched)
+        self.round_watched(rt, &team, q, workers, gate, &mut unwatched)
     }
 }

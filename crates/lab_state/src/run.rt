@@ -85,7 +85,7 @@ impl<D: Device + Send> Lab<D> {
         ensures err { OnErr result (self.new.spent ≡ true) }
     {
         let mut unwatched = Unwatched::<BoxedBoardJob<D>>::new(self.alloc);
-        let log = self.round_by(rt, team, q, workers, gate, &mut unwatched)?;
+        let log = self.round_watched(rt, team, q, workers, gate, &mut unwatched)?;
         if lines.extend_from_slice(log.lines.items()).is_err() {
             self.spent = true;
             return Err(LabFault::Memory);

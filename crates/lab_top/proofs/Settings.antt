@@ -4,7 +4,7 @@ use Rattle.std.proofs.Common.{None, Result, Ok, refl, sym, ap}
 use Rattle.std.specs.Prelude.{is_none}
 use Rattle.lab_io.specs.Held.{Held}
 use Rattle.lab_state.specs.One.{first_without}
-use Rattle.lab_state.specs.Run.{Play, run}
+use Rattle.lab_state.specs.Run.{Runner, run}
 use Rattle.lab_state.proofs.RunLemmas.{run_none}
 use Rattle.monitor.specs.declared.setting.Setting.{Setting}
 use Rattle.resc_vars.specs.declared.cause.ScriptCause.{ScriptCause}
@@ -21,12 +21,12 @@ use Rattle.lab_top.specs.Transcript.{begun, commands_of}
 
 -- the number of workers does not matter
 pub begun_workers :
-    (play : Play) (held kept : Held) (script : List ℕ) (setting : Setting) (workers : ℕ) (content : Content) →
-    begun play held kept script (record setting { workers = workers }) content
-    ≡ begun play held kept script setting content
-begun_workers play held kept script setting workers Missing = refl
-begun_workers play held kept script setting workers (Faulty fault) = refl
-begun_workers play held kept script setting workers (Readable text) = refl
+    (runner : Runner) (held kept : Held) (script : List ℕ) (setting : Setting) (workers : ℕ) (content : Content) →
+    begun runner held kept script (record setting { workers = workers }) content
+    ≡ begun runner held kept script setting content
+begun_workers runner held kept script setting workers Missing = refl
+begun_workers runner held kept script setting workers (Faulty fault) = refl
+begun_workers runner held kept script setting workers (Readable text) = refl
 
 -- what two tests let pass
 pub passed : {A : Type 0} (a b : Bool) (x y : A) →

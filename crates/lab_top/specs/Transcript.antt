@@ -9,7 +9,7 @@ use Rattle.lab_snap.specs.Saved.{spelling}
 use Rattle.lab_snap.specs.Snapshot.{snapshot_of}
 use Rattle.lab_state.specs.Lab.{Lab}
 use Rattle.lab_state.specs.Names.{names as names_of}
-use Rattle.lab_state.specs.Run.{Play, run}
+use Rattle.lab_state.specs.Run.{Runner, run}
 use Rattle.log_text.specs.Log.{rest}
 use Rattle.log_text.specs.declared.line.OpenLine.{OpenLine}
 use Rattle.lab_arguments.specs.Usage.{usage_line}
@@ -143,40 +143,40 @@ onward further kept s done =
       | Misses ↦ after done.names [] (ended kept Absent)
     ]
 
--- what so many commands of a run write, read and keep, where files hold this and a laboratory plays a run so
-unfoldable pub from : ℕ → Play → Held → Further
-from zero play held kept s = ended kept Absent
-from (suc more) play held kept s = onward (from more play held) kept s (did play held s)
+-- what so many commands of a run write, read and keep, where files hold this and a laboratory makes a run so
+unfoldable pub from : ℕ → Runner → Held → Further
+from zero runner held kept s = ended kept Absent
+from (suc more) runner held kept s = onward (from more runner held) kept s (did runner held s)
 
 -- What the commands write, read and keep that are left. 100,000 are taken at most, and what comes next ends the run.
-abbrev pub commands_of : Play → Held → Further
-commands_of play held = from 100001 play held
+abbrev pub commands_of : Runner → Held → Further
+commands_of runner held = from 100001 runner held
 
 -- how a run goes on with what the file of its script is
-abbrev pub begun : Play → Held → Held → List ℕ → Setting → Content → Transcript
-begun play held kept script setting Missing = ended kept Absent
-begun play held kept script setting (Faulty fault) = ended kept (Script fault)
-begun play held kept script setting (Readable text) = commands_of play held kept (started script text setting)
+abbrev pub begun : Runner → Held → Held → List ℕ → Setting → Content → Transcript
+begun runner held kept script setting Missing = ended kept Absent
+begun runner held kept script setting (Faulty fault) = ended kept (Script fault)
+begun runner held kept script setting (Readable text) = commands_of runner held kept (started script text setting)
 
 -- all that the run of a script writes, reads and keeps
-abbrev pub run_of : Play → Held → Held → List ℕ → Setting → Transcript
-run_of play held kept script setting =
-    after (script ∷ []) [] (begun play held kept script setting (content_of script (get held script)))
+abbrev pub run_of : Runner → Held → Held → List ℕ → Setting → Transcript
+run_of runner held kept script setting =
+    after (script ∷ []) [] (begun runner held kept script setting (content_of script (get held script)))
 
 -- all that the run of a generated laboratory writes: its summary. It reads nothing.
-abbrev pub gen_of : Play → Held → ℕ → ℕ → Transcript
-gen_of play kept seed boards = after [] (summary_of play seed boards) (ended kept Done)
+abbrev pub gen_of : Runner → Held → ℕ → ℕ → Transcript
+gen_of runner kept seed boards = after [] (summary_of runner seed boards) (ended kept Done)
 
 -- all that a request writes, reads and keeps
-abbrev pub answered : Play → Held → Held → Request → Transcript
-answered play held kept (Refused cause) = ended kept (Usage cause)
-answered play held kept (Run script setting) = run_of play held kept script setting
-answered play held kept (Gen seed boards) = gen_of play kept seed boards
+abbrev pub answered : Runner → Held → Held → Request → Transcript
+answered runner held kept (Refused cause) = ended kept (Usage cause)
+answered runner held kept (Run script setting) = run_of runner held kept script setting
+answered runner held kept (Gen seed boards) = gen_of runner kept seed boards
 
--- all that the program writes, reads and keeps, for these words, files and kept snapshots, where a laboratory plays a
+-- all that the program writes, reads and keeps, for these words, files and kept snapshots, where a laboratory makes a
 -- run so
-abbrev pub transcript_by : Play → List (List ℕ) → Held → Held → Transcript
-transcript_by play words held kept = answered play held kept (request_of words)
+abbrev pub transcript_by : Runner → List (List ℕ) → Held → Held → Transcript
+transcript_by runner words held kept = answered runner held kept (request_of words)
 
 -- all that the program writes, reads and keeps, for these words, files and kept snapshots
 abbrev pub transcript : List (List ℕ) → Held → Held → Transcript

@@ -13,7 +13,7 @@ use dev_core::{Device, Finish, Kind, Stock, What};
 use floor_run::NoGate;
 use lab_num::{BoardNo, Key, Member, Micros, NoMemory, PostNo, is_name};
 use lab_state::{Lab, LabFault, RoundLog};
-use log_merge::{LogItem, Member0, Names};
+use log_merge::{BoardTime, LogItem, Names};
 use sample_boards::small_board;
 use std::alloc::Global;
 use std::sync::Wait;
@@ -134,7 +134,7 @@ fn is_named<D: Device>(lab: &Lab<D>) -> Result<bool, NoMemory> {
 /// What the round logs: what the board that is shown sends, and the pass.
 const LINES: [LogItem; 2] = [
     LogItem::Slot(
-        Member0 {
+        BoardTime {
             at: Micros(2),
             board: M0,
         },
@@ -176,7 +176,7 @@ fn round_again<R: Threads + Wait + Copy + Send + Sync, D: Device + Send>(
 }
 
 /// A round of 10 microseconds logs the lines, and the pass pauses it.
-fn plays<R: Threads + Wait + Copy + Send + Sync, D: Device + Send>(
+fn runs_as_defined<R: Threads + Wait + Copy + Send + Sync, D: Device + Send>(
     rt: &R,
     lab: &mut Lab<D>,
 ) -> bool {
@@ -210,7 +210,7 @@ fn succeeds<R: Threads + Wait + Copy + Send + Sync, D: Device + Send>(
             && shows(lab)
             && starts(lab, M0)
             && starts(lab, M1)
-            && plays(rt, lab),
+            && runs_as_defined(rt, lab),
     )
 }
 

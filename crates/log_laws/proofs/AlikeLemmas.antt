@@ -8,7 +8,7 @@ use Rattle.lab_snap.specs.Saved.{spelling}
 use Rattle.lab_snap.specs.Snapshot.{snapshot_of}
 use Rattle.lab_state.specs.Lab.{Lab}
 use Rattle.lab_state.specs.Names.{names as names_of}
-use Rattle.lab_state.specs.Run.{Play}
+use Rattle.lab_state.specs.Run.{Runner}
 use Rattle.log_text.specs.declared.line.OpenLine.{OpenLine}
 use Rattle.log_text.specs.Log.{rest}
 use Rattle.monitor.specs.declared.setting.Setting.{Setting}
@@ -173,49 +173,49 @@ module _ (held other : Held) where
         looks_names kept stored names (rest (names_of s.lab) s.lines) (ended kept (Script fault)) looks
     onward_names Misses looks = looks_names kept stored names [] (ended kept Absent) looks
 
-  from_alike : (more : ℕ) (play : Play) → AreAlike (from more play held) (from more play other)
+  from_alike : (more : ℕ) (runner : Runner) → AreAlike (from more runner held) (from more runner other)
   unfolding from
-  from_alike zero play kept stored s looks = record { bytes = refl; outcome = refl; reads = refl; uses = refl }
-  from_alike (suc more) play kept stored s looks =
-      let first = from more play held in
-      let second = from more play other in
-      let alike = from_alike more play in
-      let done = did play held s in
-      rw (did_stays held other play s (onward_names first second alike kept stored s done.names done.answer looks))
+  from_alike zero runner kept stored s looks = record { bytes = refl; outcome = refl; reads = refl; uses = refl }
+  from_alike (suc more) runner kept stored s looks =
+      let first = from more runner held in
+      let second = from more runner other in
+      let alike = from_alike more runner in
+      let done = did runner held s in
+      rw (did_stays held other runner s (onward_names first second alike kept stored s done.names done.answer looks))
       (onward_alike first second alike kept stored s done.names done.answer looks)
 
-  pub begun_alike : (play : Play) (script : List ℕ) (setting : Setting) (content : Content) (kept stored : Held) →
-      Looks kept stored (begun play held kept script setting content) →
-      IsAlike (begun play held kept script setting content) (begun play other stored script setting content)
-  begun_alike play script setting Missing kept stored looks =
+  pub begun_alike : (runner : Runner) (script : List ℕ) (setting : Setting) (content : Content) (kept stored : Held) →
+      Looks kept stored (begun runner held kept script setting content) →
+      IsAlike (begun runner held kept script setting content) (begun runner other stored script setting content)
+  begun_alike runner script setting Missing kept stored looks =
       record { bytes = refl; outcome = refl; reads = refl; uses = refl }
-  begun_alike play script setting (Faulty fault) kept stored looks =
+  begun_alike runner script setting (Faulty fault) kept stored looks =
       record { bytes = refl; outcome = refl; reads = refl; uses = refl }
-  begun_alike play script setting (Readable text) kept stored looks =
-      from_alike 100001 play kept stored (started script text setting) looks
+  begun_alike runner script setting (Readable text) kept stored looks =
+      from_alike 100001 runner kept stored (started script text setting) looks
 
-  run_alike : (play : Play) (script : List ℕ) (setting : Setting) (kept stored : Held) →
-      Looks kept stored (run_of play held kept script setting) →
-      IsAlike (run_of play held kept script setting) (run_of play other stored script setting)
-  run_alike play script setting kept stored looks =
+  run_alike : (runner : Runner) (script : List ℕ) (setting : Setting) (kept stored : Held) →
+      Looks kept stored (run_of runner held kept script setting) →
+      IsAlike (run_of runner held kept script setting) (run_of runner other stored script setting)
+  run_alike runner script setting kept stored looks =
       let content = content_of script (get held script) in
-      let first = begun play held kept script setting content in
+      let first = begun runner held kept script setting content in
       rw (looks_names kept stored (script ∷ []) [] first looks).0
-      (after_alike (script ∷ []) [] first (begun play other stored script setting content)
-      (begun_alike play script setting content kept stored (looks_rest kept stored (script ∷ []) [] first looks)))
+      (after_alike (script ∷ []) [] first (begun runner other stored script setting content)
+      (begun_alike runner script setting content kept stored (looks_rest kept stored (script ∷ []) [] first looks)))
 
-  answered_alike : (play : Play) (request : Request) (kept stored : Held) →
-      Looks kept stored (answered play held kept request) →
-      IsAlike (answered play held kept request) (answered play other stored request)
-  answered_alike play (Refused cause) kept stored looks =
+  answered_alike : (runner : Runner) (request : Request) (kept stored : Held) →
+      Looks kept stored (answered runner held kept request) →
+      IsAlike (answered runner held kept request) (answered runner other stored request)
+  answered_alike runner (Refused cause) kept stored looks =
       record { bytes = refl; outcome = refl; reads = refl; uses = refl }
-  answered_alike play (Run script setting) kept stored looks = run_alike play script setting kept stored looks
-  answered_alike play (Gen seed boards) kept stored looks =
+  answered_alike runner (Run script setting) kept stored looks = run_alike runner script setting kept stored looks
+  answered_alike runner (Gen seed boards) kept stored looks =
       record { bytes = refl; outcome = refl; reads = refl; uses = refl }
 
-  pub transcripts_alike : (play : Play) (words : List (List ℕ)) (kept stored : Held) →
-      Same held other (names_read (transcript_by play words held kept).reads) →
-      Same kept stored (names_used (transcript_by play words held kept).uses) →
-      IsAlike (transcript_by play words held kept) (transcript_by play words other stored)
-  transcripts_alike play words kept stored reads uses =
-      answered_alike play (request_of words) kept stored (record { reads = reads; uses = uses })
+  pub transcripts_alike : (runner : Runner) (words : List (List ℕ)) (kept stored : Held) →
+      Same held other (names_read (transcript_by runner words held kept).reads) →
+      Same kept stored (names_used (transcript_by runner words held kept).uses) →
+      IsAlike (transcript_by runner words held kept) (transcript_by runner words other stored)
+  transcripts_alike runner words kept stored reads uses =
+      answered_alike runner (request_of words) kept stored (record { reads = reads; uses = uses })

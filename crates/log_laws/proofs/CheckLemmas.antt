@@ -8,7 +8,7 @@ use Rattle.lab_io.specs.Store.{get_of, put_of}
 use Rattle.lab_snap.specs.Saved.{spelling}
 use Rattle.lab_snap.specs.Snapshot.{snapshot_of}
 use Rattle.lab_state.specs.Lab.{Lab}
-use Rattle.lab_state.specs.Run.{Play, still}
+use Rattle.lab_state.specs.Run.{Runner, still}
 use Rattle.log_text.specs.declared.line.OpenLine.{OpenLine}
 use Rattle.resc_read.specs.declared.command.Command.{Command}
 use Rattle.resc_read.specs.declared.command.Command.TheVariants as command
@@ -29,10 +29,10 @@ use Rattle.lab_top.specs.Transcript.{onward, refused, resuming, transcript_by, u
 use Rattle.log_laws.specs.Checking.{IfOn}
 use Rattle.log_laws.proofs.DryLemmas.{RestsAs, did_rests}
 
-abbrev pub IsNothing : Play → Type 0
-IsNothing play = (lab : Lab) → play lab 0 ≡ still lab
+abbrev pub IsNothing : Runner → Type 0
+IsNothing runner = (lab : Lab) → runner lab 0 ≡ still lab
 
-module _ (one two : Play) (none : IsNothing one) (nothing : IsNothing two) (held : Held) where
+module _ (one two : Runner) (none : IsNothing one) (nothing : IsNothing two) (held : Held) where
   run_same : (s : State) (length : ℕ) → s.dry ≡ true → run_for one s length ≡ run_for two s length
   run_same s length dry = rw (dry, none s.lab, nothing s.lab) refl
 

@@ -3,7 +3,7 @@ use Rattle.std.proofs.Common.{◌≡◌, ℕ, nat_lt, List, length, Result, Ok, 
 use Rattle.std.specs.FinMap.{get}
 use Rattle.lab_io.specs.Held.{Held}
 use Rattle.lab_io.specs.Whole.{file_text}
-use Rattle.lab_state.specs.Run.{Play}
+use Rattle.lab_state.specs.Run.{Runner}
 use Rattle.resc_read.specs.declared.command.Command.{Command}
 use Rattle.resc_read.specs.declared.command.Command.TheVariants as command
 use Rattle.resc_read.specs.declared.command.LineCause.{LineCause}
@@ -50,51 +50,51 @@ module _ (held other : Held) where
   include_by s place path (Ok done) same = rw same.0 refl
   include_by s place path (Err cause) same = refl
 
-  work_stays : (play : Play) (s : State) (place : LinePlace) (line : Command) →
-      Stays (does held place (work play s line)) (does other place (work play s line))
-  work_stays play s place (command.LoadPlatform path) same = onto_stays s place path (bare s) same
-  work_stays play s place (command.LoadElf path) same =
+  work_stays : (runner : Runner) (s : State) (place : LinePlace) (line : Command) →
+      Stays (does held place (work runner s line)) (does other place (work runner s line))
+  work_stays runner s place (command.LoadPlatform path) same = onto_stays s place path (bare s) same
+  work_stays runner s place (command.LoadElf path) same =
       loads_stay place path (equipped s) (λ on bytes. load_read s place on (elf_image bytes)) same
-  work_stays play s place (command.LoadBinary path at) same =
+  work_stays runner s place (command.LoadBinary path at) same =
       loads_stay place path (equipped s) (λ on bytes. answer_at place (write_bytes s on at bytes)) same
-  work_stays play s place (command.LoadHex path) same =
+  work_stays runner s place (command.LoadHex path) same =
       loads_stay place path (equipped s) (λ on bytes. load_read s place on (hex_image bytes)) same
-  work_stays play s place (command.Include path) same =
+  work_stays runner s place (command.Include path) same =
       include_by s place path (require (nat_lt (length s.flow.outer) depth_limit) Depth) same
-  work_stays play s place (command.Create name) same = refl
-  work_stays play s place (command.Select name) same = refl
-  work_stays play s place command.Reset same = refl
-  work_stays play s place (command.ReadWord at) same = refl
-  work_stays play s place (command.WriteWord at value) same = refl
-  work_stays play s place (command.Pc cpu value) same = refl
-  work_stays play s place (command.Halted cpu value) same = refl
-  work_stays play s place (command.Mips cpu value) same = refl
-  work_stays play s place (command.Quantum length) same = refl
-  work_stays play s place (command.RunFor length) same = refl
-  work_stays play s place (command.UartHub name delay) same = refl
-  work_stays play s place (command.CanHub name delay) same = refl
-  work_stays play s place (command.Connect dev hub) same = refl
-  work_stays play s place (command.Show dev) same = refl
-  work_stays play s place (command.RunMacro name) same = refl
-  work_stays play s place command.UsingSysbus same = refl
-  work_stays play s place command.Pause same = refl
-  work_stays play s place command.Start same = refl
-  work_stays play s place (command.Save path) same = refl
-  work_stays play s place (command.Load path) same = refl
-  work_stays play s place command.Quit same = refl
+  work_stays runner s place (command.Create name) same = refl
+  work_stays runner s place (command.Select name) same = refl
+  work_stays runner s place command.Reset same = refl
+  work_stays runner s place (command.ReadWord at) same = refl
+  work_stays runner s place (command.WriteWord at value) same = refl
+  work_stays runner s place (command.Pc cpu value) same = refl
+  work_stays runner s place (command.Halted cpu value) same = refl
+  work_stays runner s place (command.Mips cpu value) same = refl
+  work_stays runner s place (command.Quantum length) same = refl
+  work_stays runner s place (command.RunFor length) same = refl
+  work_stays runner s place (command.UartHub name delay) same = refl
+  work_stays runner s place (command.CanHub name delay) same = refl
+  work_stays runner s place (command.Connect dev hub) same = refl
+  work_stays runner s place (command.Show dev) same = refl
+  work_stays runner s place (command.RunMacro name) same = refl
+  work_stays runner s place command.UsingSysbus same = refl
+  work_stays runner s place command.Pause same = refl
+  work_stays runner s place command.Start same = refl
+  work_stays runner s place (command.Save path) same = refl
+  work_stays runner s place (command.Load path) same = refl
+  work_stays runner s place command.Quit same = refl
 
-  line_stays : (play : Play) (s : State) (place : LinePlace) (line : Result Command LineCause) →
-      Stays (done_by play held s place line) (done_by play other s place line)
-  line_stays play s place (Ok line) same = work_stays play s place line same
-  line_stays play s place (Err cause) same = refl
+  line_stays : (runner : Runner) (s : State) (place : LinePlace) (line : Result Command LineCause) →
+      Stays (done_by runner held s place line) (done_by runner other s place line)
+  line_stays runner s place (Ok line) same = work_stays runner s place line same
+  line_stays runner s place (Err cause) same = refl
 
-  next_stays : (play : Play) (s : State) (next : script.Outcome) →
-      Stays (by_next play held s next) (by_next play other s next)
-  next_stays play s (script.Gives file n text flow) same =
-      line_stays play (record s { flow = flow }) (record { file = file; number = n }) (line_of text) same
-  next_stays play s (script.Ends kept) same = refl
-  next_stays play s (script.Refuses file n cause kept) same = refl
+  next_stays : (runner : Runner) (s : State) (next : script.Outcome) →
+      Stays (by_next runner held s next) (by_next runner other s next)
+  next_stays runner s (script.Gives file n text flow) same =
+      line_stays runner (record s { flow = flow }) (record { file = file; number = n }) (line_of text) same
+  next_stays runner s (script.Ends kept) same = refl
+  next_stays runner s (script.Refuses file n cause kept) same = refl
 
-  pub did_stays : (play : Play) (s : State) → Stays (did play held s) (did play other s)
+  pub did_stays : (runner : Runner) (s : State) → Stays (did runner held s) (did runner other s)
   unfolding did
-  did_stays play s same = next_stays play s (next_of s.flow) same
+  did_stays runner s same = next_stays runner s (next_of s.flow) same

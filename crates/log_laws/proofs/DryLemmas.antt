@@ -7,7 +7,7 @@ use Rattle.lab_io.specs.Whole.{FileText, Missing, Large, Broken, Readable, file_
 use Rattle.lab_num.specs.declared.key.Member.{Member}
 use Rattle.lab_state.specs.Lab.{Lab}
 use Rattle.lab_state.specs.Names.{connected_to}
-use Rattle.lab_state.specs.Run.{Play, still}
+use Rattle.lab_state.specs.Run.{Runner, still}
 use Rattle.repl_build.specs.Plan.{built}
 use Rattle.repl_files.specs.Loading.{Loading, Outcome, Joined, Refused, Oversized, Absent, load}
 use Rattle.repl_read.specs.declared.fault.PlatFault.{PlatFault}
@@ -137,14 +137,14 @@ connected_of : (s : State) (hub : Option ℕ) (m : Member) → Rests s (record s
 connected_of s None m = same s
 connected_of s (Some hub) m = same s
 
-module _ (play : Play) (nothing : (lab : Lab) → play lab 0 ≡ still lab) (held : Held) where
-  run_of_none : (s : State) (length : ℕ) → s.dry ≡ true → RestsBy s (run_for play s length)
+module _ (runner : Runner) (nothing : (lab : Lab) → runner lab 0 ≡ still lab) (held : Held) where
+  run_of_none : (s : State) (length : ℕ) → s.dry ≡ true → RestsBy s (run_for runner s length)
   run_of_none s length dry =
-      let stays : Rests s (has_run s (play s.lab (length_of s length))).state = (rw (dry, nothing s.lab) refl, refl) in
+      let stays : Rests s (has_run s (runner s.lab (length_of s length))).state = (rw (dry, nothing s.lab) refl, refl) in
       search (rests_then, stays)
 
   work_rests : (s : State) (place : LinePlace) (line : Command) → s.dry ≡ true →
-      RestsAs s (does held place (work play s line)).answer
+      RestsAs s (does held place (work runner s line)).answer
   work_rests s place (command.LoadPlatform path) dry =
       onto s place (load held (length s.flow.outer) path) (bare s)
   work_rests s place (command.LoadElf path) dry =
@@ -183,7 +183,7 @@ module _ (play : Play) (nothing : (lab : Lab) → play lab 0 ≡ still lab) (hel
       (search (rests_then, mips_of s))
   work_rests s place (command.Quantum length) dry = same s
   work_rests s place (command.RunFor length) dry =
-      answered_at s place (run_for play s length.0) (run_of_none s length.0 dry)
+      answered_at s place (run_for runner s length.0) (run_of_none s length.0 dry)
   work_rests s place (command.UartHub name delay) dry =
       answered_at s place (uart_hub s name delay.0) (search (rests_then, same s))
   work_rests s place (command.CanHub name delay) dry =
@@ -199,22 +199,22 @@ module _ (play : Play) (nothing : (lab : Lab) → play lab 0 ≡ still lab) (hel
   work_rests s place command.UsingSysbus dry = same s
   work_rests s place command.Pause dry = same s
   work_rests s place command.Start dry =
-      answered_at s place (start play s) (run_of_none s (s.until - s.lab.now) dry)
+      answered_at s place (start runner s) (run_of_none s (s.until - s.lab.now) dry)
   work_rests s place (command.Save path) dry = same s
   work_rests s place (command.Load path) dry = same s
   work_rests s place command.Quit dry = tt
 
   line_rests : (s : State) (place : LinePlace) (line : Result Command LineCause) → s.dry ≡ true →
-      RestsAs s (done_by play held s place line).answer
+      RestsAs s (done_by runner held s place line).answer
   line_rests s place (Ok line) dry = work_rests s place line dry
   line_rests s place (Err cause) dry = tt
 
-  next_rests : (s : State) (next : script.Outcome) → s.dry ≡ true → RestsAs s (by_next play held s next).answer
+  next_rests : (s : State) (next : script.Outcome) → s.dry ≡ true → RestsAs s (by_next runner held s next).answer
   next_rests s (script.Gives file n text flow) dry =
       line_rests (record s { flow = flow }) (record { file = file; number = n }) (line_of text) dry
   next_rests s (script.Ends kept) dry = tt
   next_rests s (script.Refuses file n cause kept) dry = tt
 
-  pub did_rests : (s : State) → s.dry ≡ true → RestsAs s (did play held s).answer
+  pub did_rests : (s : State) → s.dry ≡ true → RestsAs s (did runner held s).answer
   unfolding did
   did_rests s dry = next_rests s (next_of s.flow) dry

@@ -1,7 +1,7 @@
 -- A script goes on in the same way over other files that hold the same under the names that its lines read.
 use Rattle.std.proofs.Common.{◌≡◌, ◌∷◌, ◌∙◌, ℕ, List, [], refl, sym, ap}
 use Rattle.lab_io.specs.Held.{Held}
-use Rattle.lab_state.specs.Run.{Play}
+use Rattle.lab_state.specs.Run.{Runner}
 use Rattle.monitor.specs.declared.setting.Setting.{Setting}
 use Rattle.lab_top.specs.Content.{Readable}
 use Rattle.lab_top.specs.Headline.{calls, kept_by, names_read}
@@ -25,15 +25,15 @@ one_run one two alike kept = λ i. record {
   kept = kept i;
 }
 
-pub begun_same : (play : Play) (held other kept : Held) (script text : List ℕ) (setting : Setting) →
-    Same held other (names_read (begun play held kept script setting (Readable text)).reads) →
-    begun play other kept script setting (Readable text) ≡ begun play held kept script setting (Readable text)
-begun_same play held other kept script text setting same =
-    let one = begun play held kept script setting (Readable text) in
-    let two = begun play other kept script setting (Readable text) in
+pub begun_same : (runner : Runner) (held other kept : Held) (script text : List ℕ) (setting : Setting) →
+    Same held other (names_read (begun runner held kept script setting (Readable text)).reads) →
+    begun runner other kept script setting (Readable text) ≡ begun runner held kept script setting (Readable text)
+begun_same runner held other kept script text setting same =
+    let one = begun runner held kept script setting (Readable text) in
+    let two = begun runner other kept script setting (Readable text) in
     let looks : Looks held other kept kept one =
     record { reads = same; uses = same_kept kept (names_used one.uses) } in
-    let alike = begun_alike held other play script setting (Readable text) kept kept looks in
-    let keeps = (begun_orderly play held kept script setting (Readable text)).keeps in
-    let keeps_too = (begun_orderly play other kept script setting (Readable text)).keeps in
+    let alike = begun_alike held other runner script setting (Readable text) kept kept looks in
+    let keeps = (begun_orderly runner held kept script setting (Readable text)).keeps in
+    let keeps_too = (begun_orderly runner other kept script setting (Readable text)).keeps in
     one_run one two alike (keeps_too ∙ ap (λ uses. kept_by kept (calls uses)) alike.uses ∙ sym keeps)

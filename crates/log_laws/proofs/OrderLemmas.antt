@@ -7,7 +7,7 @@ use Rattle.lab_io.specs.Store.{get_of, put_of}
 use Rattle.lab_snap.specs.Saved.{spelling}
 use Rattle.lab_snap.specs.Snapshot.{snapshot_of}
 use Rattle.lab_state.specs.Lab.{Lab}
-use Rattle.lab_state.specs.Run.{Play}
+use Rattle.lab_state.specs.Run.{Runner}
 use Rattle.log_text.specs.declared.line.OpenLine.{OpenLine}
 use Rattle.monitor.specs.declared.setting.Setting.{Setting}
 use Rattle.monitor.specs.Answer.{Answer, Goes, Saves, Loads, Ends, Faults, Misses}
@@ -138,28 +138,28 @@ module _ (further : Further) (are : AreOrderly further) (kept : Held) (s : State
   onward_orderly (Faults fault) = after_orderly kept names _ (ended kept _) (ended_orderly kept _)
   onward_orderly Misses = after_orderly kept names [] (ended kept _) (ended_orderly kept _)
 
-from_orderly : (more : ℕ) (play : Play) (held : Held) → AreOrderly (from more play held)
+from_orderly : (more : ℕ) (runner : Runner) (held : Held) → AreOrderly (from more runner held)
 unfolding from
-from_orderly zero play held kept s = ended_orderly kept _
-from_orderly (suc more) play held kept s =
-    let done = did play held s in
-    onward_orderly (from more play held) (from_orderly more play held) kept s done.names done.answer
+from_orderly zero runner held kept s = ended_orderly kept _
+from_orderly (suc more) runner held kept s =
+    let done = did runner held s in
+    onward_orderly (from more runner held) (from_orderly more runner held) kept s done.names done.answer
 
-pub begun_orderly : (play : Play) (held kept : Held) (script : List ℕ) (setting : Setting) (content : Content) →
-    IsOrderly kept (begun play held kept script setting content)
-begun_orderly play held kept script setting Missing = ended_orderly kept _
-begun_orderly play held kept script setting (Faulty fault) = ended_orderly kept _
-begun_orderly play held kept script setting (Readable text) =
-    from_orderly 100001 play held kept (started script text setting)
+pub begun_orderly : (runner : Runner) (held kept : Held) (script : List ℕ) (setting : Setting) (content : Content) →
+    IsOrderly kept (begun runner held kept script setting content)
+begun_orderly runner held kept script setting Missing = ended_orderly kept _
+begun_orderly runner held kept script setting (Faulty fault) = ended_orderly kept _
+begun_orderly runner held kept script setting (Readable text) =
+    from_orderly 100001 runner held kept (started script text setting)
 
-pub answered_orderly : (play : Play) (held kept : Held) (request : Request) →
-    IsOrderly kept (answered play held kept request)
-answered_orderly play held kept (Refused cause) = ended_orderly kept _
-answered_orderly play held kept (Run script setting) =
+pub answered_orderly : (runner : Runner) (held kept : Held) (request : Request) →
+    IsOrderly kept (answered runner held kept request)
+answered_orderly runner held kept (Refused cause) = ended_orderly kept _
+answered_orderly runner held kept (Run script setting) =
     after_orderly kept (script ∷ []) [] _
-    (begun_orderly play held kept script setting (content_of script (get held script)))
-answered_orderly play held kept (Gen seed boards) = after_orderly kept [] _ (ended kept _) (ended_orderly kept _)
+    (begun_orderly runner held kept script setting (content_of script (get held script)))
+answered_orderly runner held kept (Gen seed boards) = after_orderly kept [] _ (ended kept _) (ended_orderly kept _)
 
-pub transcript_orderly : (play : Play) (words : List (List ℕ)) (held kept : Held) →
-    IsOrderly kept (transcript_by play words held kept)
-transcript_orderly play words held kept = answered_orderly play held kept (request_of words)
+pub transcript_orderly : (runner : Runner) (words : List (List ℕ)) (held kept : Held) →
+    IsOrderly kept (transcript_by runner words held kept)
+transcript_orderly runner words held kept = answered_orderly runner held kept (request_of words)

@@ -4,7 +4,7 @@ use lab_num::{BoardNo, Member, Micros};
 
 /// A time on a board.
 #[derive(Clone, Copy, PartialEq, Eq)]
-pub struct Member0 {
+pub struct BoardTime {
     pub at: Micros,
     pub board: BoardNo,
 }
@@ -25,7 +25,7 @@ pub enum Note {
 #[derive(Clone, Copy, PartialEq, Eq)]
 pub enum LogItem {
     /// What a board noted in one of its slots.
-    Slot(Member0, What),
+    Slot(BoardTime, What),
     /// What became of a payload that a device was handed at the boundary at `at`.
     Note {
         at: Micros,

@@ -6,6 +6,6 @@ mod item;
 mod merge;
 mod names;
 
-pub use item::{LogItem, Member0, Note};
+pub use item::{BoardTime, LogItem, Note};
 pub use merge::{merge_entries, merge_posts};
 pub use names::{BoardNames, Names};

@@ -11,7 +11,7 @@ use Rattle.dev_core.specs.declared.post.What.TheVariants.{Byte, Sent, Read, Writ
 use Rattle.dev_core.specs.Frame.{FrameData}
 use Rattle.log_merge.specs.declared.item.LogItem.{LogItem}
 use Rattle.log_merge.specs.declared.item.LogItem.TheVariants.{Slot, Note, Pause}
-use Rattle.log_merge.specs.declared.item.Member0.{Member0}
+use Rattle.log_merge.specs.declared.item.BoardTime.{BoardTime}
 use Rattle.log_merge.specs.declared.item.Note as note
 use Rattle.log_merge.specs.declared.item.Note.TheVariants.{Overrun, Received, Lost}
 use Rattle.log_merge.specs.declared.names.Names.{Names}
@@ -49,7 +49,7 @@ finish_text Pass = codes "pass"
 finish_text (Fail code) = codes "fail " ++ decimal code
 
 -- the device `dev` of the board of a slot
-abbrev pub device_of : Member0 → ℕ → Member
+abbrev pub device_of : BoardTime → ℕ → Member
 device_of from dev = record { board = from.board; dev = dev }
 
 -- the line of a frame: a word for what became of it at a device, and the frame

@@ -10,11 +10,11 @@ use crate::names::{board_name, device_name};
 use crate::number::{Seconds, Word};
 use dev_core::{Finish, Frame};
 use lab_num::{Member, Micros, NoMemory};
-use log_merge::{Member0, Names, Note};
+use log_merge::{BoardTime, Names, Note};
 
 /// Writes the line of a load of `width` bytes that reached nothing.
 pub fn print_read(
-    from: Member0,
+    from: BoardTime,
     width: u8,
     address: u32,
     names: &Names,
@@ -33,7 +33,7 @@ pub fn print_read(
 
 /// Writes the line of a store of `width` bytes that reached nothing.
 pub fn print_write(
-    from: Member0,
+    from: BoardTime,
     width: u8,
     address: u32,
     value: u32,

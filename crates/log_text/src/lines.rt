@@ -10,7 +10,7 @@ use crate::item::{print_frame, print_note, print_pause, print_read, print_write}
 use crate::line::{OpenLine, blank, gather, is_ending, is_unended, print};
 use dev_core::What;
 use lab_num::{Member, Micros, NoMemory};
-use log_merge::{LogItem, Member0, Names};
+use log_merge::{BoardTime, LogItem, Names};
 use std::alloc::Global;
 use std::marker::Model;
 use std::mem;
@@ -281,7 +281,7 @@ fn rise(lines: &[OpenLine]) -> bool
 }
 
 /// The device `dev` of the board of a slot.
-fn device_of(from: Member0, dev: u8) -> Member
+fn device_of(from: BoardTime, dev: u8) -> Member
     ensures { result ≡ log_spec.device_of from dev }
 {
     Member {

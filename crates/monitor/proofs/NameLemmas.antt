@@ -17,7 +17,7 @@ use Rattle.lab_state.specs.Hub.{Hub, members_of}
 use Rattle.lab_state.specs.Lab.{Lab}
 use Rattle.lab_state.specs.Names.{board_names, names}
 use Rattle.lab_state.specs.One.{with_view}
-use Rattle.lab_state.specs.Round.{Rounded, round, round_by, granted, posts_made, stepped}
+use Rattle.lab_state.specs.Round.{Rounded, round, round_watched, granted, posts_made, stepped}
 use Rattle.lab_state.specs.Run.{run, run_by, go_on, still, lengths}
 use Rattle.lab_state.proofs.RoundLemmas.{map-routes}
 
@@ -52,7 +52,7 @@ names_with all = record { boards = all }
 
 module _ (plans : (v : View) (from a n : ℕ) → (stretch v from a n).view.space.plan ≡ v.space.plan) where
   round_keeps : (lab : Lab) (q : ℕ) → names (round lab q).lab ≡ names lab
-  unfolding round_by
+  unfolding round_watched
   round_keeps lab q =
       let to = lab.now + q in
       let stepped_all = map (stepped (granted lab.now to)) lab.boards in

@@ -24,7 +24,7 @@ use Rattle.log_merge.specs.declared.names.Names.{Names}
 use Rattle.log_text.specs.declared.line.OpenLine.{OpenLine}
 use Rattle.log_text.specs.Log.{open_lines, text}
 use Rattle.monitor.specs.Step.{Running}
-use Rattle.monitor.specs.Inner.Writing.{IsPlayed, played}
+use Rattle.monitor.specs.Inner.Writing.{IsRoundPrinted, after_rounds}
 
 -- ---- the rounds of a run
 
@@ -169,20 +169,20 @@ onto m lab lines = record m { state = record m.state { lab = lab; lines = lines 
 
 -- a round more changes no more
 pub same_but : (first m new : Running) (made : Rounded) → m ≡ onto first m.state.lab m.state.lines →
-    new ≡ played m made → new ≡ onto first new.state.lab new.state.lines
+    new ≡ after_rounds m made → new ≡ onto first new.state.lab new.state.lines
 same_but first m new made same becomes =
     becomes ∙ ap (λ (r : Running). onto r made.lab (open_lines m.state.lines made.items)) same
     ∙ (λ i. onto first (sym becomes i).state.lab (sym becomes i).state.lines)
 
 -- all rounds change no more than a run
 pub becomes_all : (first m : Running) (all : Rounded) → m ≡ onto first m.state.lab m.state.lines →
-    m.state.lab ≡ all.lab → m.state.lines ≡ open_lines first.state.lines all.items → m ≡ played first all
+    m.state.lab ≡ all.lab → m.state.lines ≡ open_lines first.state.lines all.items → m ≡ after_rounds first all
 becomes_all first m all same lab lines = same ∙ (λ i. onto first (lab i) (lines i))
 
 -- what is left after a round is what is left in the monitor after it
 pub come_on :
     {shown : Names} {lines : List OpenLine} {all : Rounded} {out out' : Option (List ℕ)} (longest left : ℕ)
-    (m new : Running) (made : Rounded) (paused : Option Key) → new ≡ played m made → paused ≡ made.paused →
+    (m new : Running) (made : Rounded) (paused : Option Key) → new ≡ after_rounds m made → paused ≡ made.paused →
     IsCome shown lines (open_lines m.state.lines made.items) all (left_of longest left made.lab made.paused) out out' →
     IsCome shown lines new.state.lines all (left_of longest left new.state.lab paused) out out'
 come_on {shown} {lines} {all} {out} {out'} longest left m new made paused becomes same come =
@@ -196,7 +196,7 @@ come_on {shown} {lines} {all} {out} {out'} longest left m new made paused become
 
 module _ {A K : Type 0} {out : Ghosts K} (shown : Names) (all : Rounded) (old new : Running) (before after : K) where
   -- memory ran out before anything was printed
-  pub unplayed : new.ended ≡ true → IsPlayed {A = A} out shown all (Err Memory) old new before before
+  pub unplayed : new.ended ≡ true → IsRoundPrinted {A = A} out shown all (Err Memory) old new before before
   unplayed ended = record {
     becomes = tt;
     whole = tt;
@@ -205,11 +205,11 @@ module _ {A K : Type 0} {out : Ghosts K} (shown : Names) (all : Rounded) (old ne
     writes = writes_none (λ is. cc is);
   }
 
-  -- they were played, and all is written
-  pub played_whole : (x : A) (P : Type 0) → new ≡ played old all →
+  -- they were made, and all is written
+  pub printed_whole : (x : A) (P : Type 0) → new ≡ after_rounds old all →
       out.written after ≡ grown (out.written before) (text shown old.state.lines all.items) →
-      OnlyWrites out P before after → IsPlayed out shown all (Ok x) old new before after
-  played_whole x P is whole writes = record {
+      OnlyWrites out P before after → IsRoundPrinted out shown all (Ok x) old new before after
+  printed_whole x P is whole writes = record {
     becomes = is;
     whole = whole;
     part = tt;
@@ -218,9 +218,9 @@ module _ {A K : Type 0} {out : Ghosts K} (shown : Names) (all : Rounded) (old ne
   }
 
   -- a part of it is
-  pub played_part : (fault : WriteFault) →
+  pub printed_part : (fault : WriteFault) →
       IsPartWritten (out.written before) (text shown old.state.lines all.items) (out.written after) →
       new.ended ≡ true → OnlyWrites out (IsErrOf {T = A} (Err fault) Unwritten) before after →
-      IsPlayed {A = A} out shown all (Err fault) old new before after
-  played_part fault part ended writes =
+      IsRoundPrinted {A = A} out shown all (Err fault) old new before after
+  printed_part fault part ended writes =
       record { becomes = tt; whole = tt; part = part; ended = ended; writes = writes }

@@ -13,7 +13,7 @@ use Rattle.lab_io.specs.Known.{grown}
 use Rattle.lab_io.proofs.Asking.{asks_all, asks_none}
 use Rattle.lab_io.proofs.Frames.{reads_as, reads_none}
 use Rattle.lab_io.proofs.Grown.{grown-nil}
-use Rattle.lab_state.specs.Run.{Play}
+use Rattle.lab_state.specs.Run.{Runner}
 use Rattle.resc_read.specs.declared.command.Command.{Command}
 use Rattle.resc_read.specs.declared.command.LineCause.{LineCause}
 use Rattle.resc_read.specs.declared.command.LineFault.{LineFault}
@@ -177,14 +177,14 @@ module _ {F : Type 0} {files : Ghosts F} where
 
   -- a line that is no command
   pub line_refused :
-      (play : Play) (line : Result Command LineCause) (fault : LineFault) (old : Running) (before : F) →
+      (runner : Runner) (line : Result Command LineCause) (fault : LineFault) (old : Running) (before : F) →
       IsReadAs line (Err fault) →
-      IsDone files (λ held place. done_by play held old.state place line) (Err (line_stop fault)) old old before before
-  line_refused play line line_fault.Unknown old before is = rw is (done_refused Unknown old before)
-  line_refused play line line_fault.Arguments old before is = rw is (done_refused Arguments old before)
-  line_refused play line line_fault.Time old before is = rw is (done_refused Time old before)
-  line_refused play line line_fault.Memory old before is = record {
-    carried = λ place held told. asks_none (done_by play held old.state place line).names (files.asked before);
+      IsDone files (λ held place. done_by runner held old.state place line) (Err (line_stop fault)) old old before before
+  line_refused runner line line_fault.Unknown old before is = rw is (done_refused Unknown old before)
+  line_refused runner line line_fault.Arguments old before is = rw is (done_refused Arguments old before)
+  line_refused runner line line_fault.Time old before is = rw is (done_refused Time old before)
+  line_refused runner line line_fault.Memory old before is = record {
+    carried = λ place held told. asks_none (done_by runner held old.state place line).names (files.asked before);
     leaves = refl;
     open_lines = tt;
     reads = reads_none (λ same. cc same);

@@ -9,13 +9,13 @@ use Rattle.lab_state.specs.Names.{names}
 use Rattle.log_merge.specs.declared.names.Names.{Names}
 use Rattle.log_text.specs.Log.{text}
 use Rattle.monitor.specs.declared.halt.Halt.TheVariants.{Cut}
-use Rattle.monitor.specs.Inner.Writing.{IsRunMade, played}
+use Rattle.monitor.specs.Inner.Writing.{IsRunMade, after_rounds}
 use Rattle.std.proofs.lemmas.Bool.{leb-true}
 use Rattle.lab_num.specs.declared.number.BoardNo.{BoardNo}
 use Rattle.lab_state.specs.declared.faults.RunCause.{RunCause}
 use Rattle.lab_state.specs.declared.faults.RunCause.TheVariants as cause
 use Rattle.lab_state.specs.One.{first_without, HaveAllPlans}
-use Rattle.lab_state.specs.Run.{Play, run}
+use Rattle.lab_state.specs.Run.{Runner, run}
 use Rattle.monitor.specs.Inner.Ruling.{IsRuled, may_stop}
 use Rattle.monitor.specs.Runs.{has_run, length_of, run_for}
 use Rattle.monitor.specs.State.{State}
@@ -27,14 +27,14 @@ late m n false is less = is
 
 -- a run that may not be made is refused for its cause
 pub refused_run :
-    (play : Play) (old : Running) (length : ℕ) (why : RunCause) (answer : Result (Unit {0}) RunCause) →
+    (runner : Runner) (old : Running) (length : ℕ) (why : RunCause) (answer : Result (Unit {0}) RunCause) →
     ((b : BoardNo) → (answer ≡ Err (cause.NoPlan b)) ↔ (first_without old.state.lab.boards ≡ Some b.0)) →
     (answer ≡ Err cause.TooLong) ↔ (HaveAllPlans old.state.lab × (10000000000 < old.state.lab.now + length)) →
-    answer ≡ Err why → IsRuled (run_for play old.state length) (Err (may_stop why)) old old
-refused_run play old length (cause.NoPlan b) answer plan time is =
+    answer ≡ Err why → IsRuled (run_for runner old.state length) (Err (may_stop why)) old old
+refused_run runner old length (cause.NoPlan b) answer plan time is =
     let bare = (plan b).0 is in
     rw bare (refl, refl)
-refused_run play old length cause.TooLong answer plan time is =
+refused_run runner old length cause.TooLong answer plan time is =
     let long = time.0 is in
     let after = late (old.state.lab.now + length) 10000000000 _ refl long.1 in
     rw (long.0, after) (refl, refl)
@@ -49,10 +49,10 @@ no_longer s length = either s.dry
 
 -- ---- a run that may be made
 
--- it comes to what is played
-made : (play : Play) (s : State) (length d : ℕ) → HaveAllPlans s.lab → s.lab.now + length ≤ 10000000000 →
-    d ≡ length_of s length → run_for play s length ≡ Ok (has_run s (play s.lab d))
-made play s length d all within is =
+-- it comes to what is made
+made : (runner : Runner) (s : State) (length d : ℕ) → HaveAllPlans s.lab → s.lab.now + length ≤ 10000000000 →
+    d ≡ length_of s length → run_for runner s length ≡ Ok (has_run s (runner s.lab d))
+made runner s length d all within is =
     let time : nat_le (s.lab.now + length) 10000000000 ≡ true = grind (arith, nat_tests) in
     rw (all, time, is) refl
 
@@ -61,23 +61,23 @@ module _
     (within : old.state.lab.now + length ≤ 10000000000) (is : d ≡ length_of old.state length)
     (same : names (run old.state.lab d).lab ≡ names old.state.lab) where
   -- all of it is printed
-  pub run_made : (out out' : Option (List ℕ)) → old.spent ≡ false → new ≡ played old (run old.state.lab d) →
+  pub run_made : (out out' : Option (List ℕ)) → old.spent ≡ false → new ≡ after_rounds old (run old.state.lab d) →
       out' ≡ grown out (text (names old.state.lab) old.state.lines (run old.state.lab d).items) →
       IsRunMade (run_for run old.state length) (Ok tt) old new out out'
-  run_made out out' unspent played wrote =
+  run_made out out' unspent after_rounds wrote =
       let items = (run old.state.lab d).items in
       let ruling : run_for run old.state length
       ≡ Ok (record { text = text (names old.state.lab) old.state.lines items; state = new.state }) =
       made run old.state length d all within is
-      ∙ (λ i. Ok (record { text = text (same i) old.state.lines items; state = (sym played i).state })) in (
+      ∙ (λ i. Ok (record { text = text (same i) old.state.lines items; state = (sym after_rounds i).state })) in (
         text (names old.state.lab) old.state.lines items,
         ruling,
         record {
-          workers = ap (λ (r : Running). r.workers) played;
-          spent = ap (λ (r : Running). r.spent) played ∙ unspent;
-          ended = ap (λ (r : Running). r.ended) played;
-          flow = ap (λ (r : Running). r.state.flow.ended) played;
-          kept = ap (λ (r : Running). r.state.flow.kept) played;
+          workers = ap (λ (r : Running). r.workers) after_rounds;
+          spent = ap (λ (r : Running). r.spent) after_rounds ∙ unspent;
+          ended = ap (λ (r : Running). r.ended) after_rounds;
+          flow = ap (λ (r : Running). r.state.flow.ended) after_rounds;
+          kept = ap (λ (r : Running). r.state.flow.kept) after_rounds;
         },
         wrote,
       )

@@ -7,7 +7,7 @@ use Rattle.lab_io.specs.Held.{Held}
 use Rattle.lab_io.specs.Known.{grown}
 use Rattle.lab_io.proofs.Asking.{asks_all}
 use Rattle.lab_io.proofs.Grown.{grown-nil}
-use Rattle.lab_state.specs.Run.{Play}
+use Rattle.lab_state.specs.Run.{Runner}
 use Rattle.resc_read.specs.Line.{line_of}
 use Rattle.resc_vars.specs.declared.answer.Next.TheVariants as next
 use Rattle.resc_vars.specs.declared.cause.ScriptCause.{ScriptCause}
@@ -24,7 +24,7 @@ use Rattle.monitor.specs.Progress.{IsProgress, stands_for}
 use Rattle.monitor.specs.State.{State}
 use Rattle.monitor.specs.Step.{IsStep, IsCut}
 
-module _ (play : Play) (s after : State) (flow : script.State) where
+module _ (runner : Runner) (s after : State) (flow : script.State) where
   -- a step has done what the line does that it has taken
   pub line_step :
       (held : Option Held) (answered : Progress) (log log' : AskedNames) (out out' : Option (List ℕ)) (file : List ℕ)
@@ -32,9 +32,9 @@ module _ (play : Play) (s after : State) (flow : script.State) where
       (text taken : List ℕ) →
       Says (next.Line file n text) flow (next_of s.flow) → taken ≡ text →
       ForSome held (λ held. IsProgress
-      (done_by play held (record s { flow = flow }) (record { file = file; number = n }) (line_of taken))
+      (done_by runner held (record s { flow = flow }) (record { file = file; number = n }) (line_of taken))
       answered after log log' out out') →
-      IfSome held (λ held. IsProgress (did play held s) answered after log log' out out')
+      IfSome held (λ held. IsProgress (did runner held s) answered after log log' out out')
   unfolding did
   line_step None answered log log' out out' file n text taken is same stepped = tt
   line_step (Some held) answered log log' out out' file n text taken is same stepped =
@@ -42,7 +42,7 @@ module _ (play : Play) (s after : State) (flow : script.State) where
 
   pub end_is :
       (held : Option Held) (log : AskedNames) (out : Option (List ℕ)) → Says next.End flow (next_of s.flow) →
-      IfSome held (λ held. IsProgress (did play held s) progress.End after log log out out)
+      IfSome held (λ held. IsProgress (did runner held s) progress.End after log log out out)
   unfolding did
   end_is None log out is = tt
   end_is (Some held) log out is = rw is ((refl, sym (grown-nil log)), refl)
@@ -51,7 +51,7 @@ module _ (play : Play) (s after : State) (flow : script.State) where
       (held : Option Held) (file : List ℕ) (n : ℕ) (cause : ScriptCause) (log : AskedNames) (out : Option (List ℕ)) →
       Says (next.Fault file n cause) flow (next_of s.flow) →
       IfSome held
-      (λ held. IsProgress (did play held s) (progress.Fault (record { file = file; line = n; cause = Script cause }))
+      (λ held. IsProgress (did runner held s) (progress.Fault (record { file = file; line = n; cause = Script cause }))
       after log log out out)
   unfolding did
   fault_is None file n cause log out is = tt
@@ -71,13 +71,13 @@ absent_is_cut done progress.Unread after log log' out out' is misses = tt
 absent_is_cut done progress.Memory after log log' out out' is misses = tt
 
 pub step_absent :
-    (play : Play) (s after : State) (held : Option Held) (answered : Progress) (log log' : AskedNames)
+    (runner : Runner) (s after : State) (held : Option Held) (answered : Progress) (log log' : AskedNames)
     (out out' : Option (List ℕ)) →
-    IfSome held (λ held. IsProgress (did play held s) answered after log log' out out') →
-    IfSome held (λ held. (did play held s).answer ≡ Misses → IsCut (stands_for answered))
-step_absent play s after None answered log log' out out' is = tt
-step_absent play s after (Some held) answered log log' out out' is =
-    absent_is_cut (did play held s) answered after log log' out out' is
+    IfSome held (λ held. IsProgress (did runner held s) answered after log log' out out') →
+    IfSome held (λ held. (did runner held s).answer ≡ Misses → IsCut (stands_for answered))
+step_absent runner s after None answered log log' out out' is = tt
+step_absent runner s after (Some held) answered log log' out out' is =
+    absent_is_cut (did runner held s) answered after log log' out out' is
 
 -- ---- a step whose text goes to an output in memory
 
@@ -88,23 +88,23 @@ in_text none text bytes empty is =
 
 -- its text is what was written
 pub says_text :
-    (play : Play) (s after : State) (held : Option Held) (log log' : AskedNames) (none bytes : List ℕ) → none ≡ [] →
-    IfSome held (λ held. IsProgress (did play held s) progress.Done after log log' (Some none) (Some bytes)) →
-    IfSome held (λ held. IsStep (did play held s) (step.Text bytes) after log log')
-says_text play s after None log log' none bytes empty is = tt
-says_text play s after (Some held) log log' none bytes empty is =
-    subst (λ (t : List ℕ). IsStep (did play held s) (step.Text t) after log log')
+    (runner : Runner) (s after : State) (held : Option Held) (log log' : AskedNames) (none bytes : List ℕ) → none ≡ [] →
+    IfSome held (λ held. IsProgress (did runner held s) progress.Done after log log' (Some none) (Some bytes)) →
+    IfSome held (λ held. IsStep (did runner held s) (step.Text bytes) after log log')
+says_text runner s after None log log' none bytes empty is = tt
+says_text runner s after (Some held) log log' none bytes empty is =
+    subst (λ (t : List ℕ). IsStep (did runner held s) (step.Text t) after log log')
     (in_text none is.0 bytes empty is.2) is.1
 
 -- one that was cut short has found no memory
 pub cut_is_memory :
-    (play : Play) (s after : State) (held : Option Held) (fault : WriteFault) (log log' : AskedNames)
+    (runner : Runner) (s after : State) (held : Option Held) (fault : WriteFault) (log log' : AskedNames)
     (out out' : Option (List ℕ)) →
-    IfSome held (λ held. IsProgress (did play held s) (progress.Cut fault) after log log' out out') →
-    IfSome held (λ held. IsStep (did play held s) step.Memory after log log')
-cut_is_memory play s after None fault log log' out out' is = tt
-cut_is_memory play s after (Some held) fault log log' out out' is =
-    asks_all (did play held s).names log log' is.2.1
+    IfSome held (λ held. IsProgress (did runner held s) (progress.Cut fault) after log log' out out') →
+    IfSome held (λ held. IsStep (did runner held s) step.Memory after log log')
+cut_is_memory runner s after None fault log log' out out' is = tt
+cut_is_memory runner s after (Some held) fault log log' out out' is =
+    asks_all (did runner held s).names log log' is.2.1
 
 -- each other one is the step that it stands for
 pub first_is :

@@ -4,7 +4,7 @@ use Rattle.log_text.specs.Log.{open_lines, text}
 use Rattle.lab_state.specs.Names.{names}
 use Rattle.lab_state.specs.One.{first_without}
 use Rattle.lab_state.specs.Round.{Rounded}
-use Rattle.lab_state.specs.Run.{Play}
+use Rattle.lab_state.specs.Run.{Runner}
 use Rattle.resc_vars.specs.declared.cause.ScriptCause.{ScriptCause}
 use Rattle.resc_vars.specs.declared.cause.ScriptCause.TheVariants.{LabTime, Platform}
 use Rattle.monitor.specs.Answer.{Done, leaves}
@@ -27,12 +27,12 @@ abbrev pub length_of : State → ℕ → ℕ
 length_of s length = if s.dry then 0 else length
 
 -- emulation RunFor length
-abbrev pub run_for : Play → State → ℕ → Result Done ScriptCause
-run_for play s length = do
+abbrev pub run_for : Runner → State → ℕ → Result Done ScriptCause
+run_for runner s length = do
   plans ← require (is_none (first_without s.lab.boards)) Platform
   time ← require (nat_le (s.lab.now + length) (10 ^ 10)) LabTime
-  Ok (has_run s (play s.lab (length_of s length)))
+  Ok (has_run s (runner s.lab (length_of s length)))
 
 -- start
-abbrev pub start : Play → State → Result Done ScriptCause
-start play s = run_for play s (s.until - s.lab.now)
+abbrev pub start : Runner → State → Result Done ScriptCause
+start runner s = run_for runner s (s.until - s.lab.now)

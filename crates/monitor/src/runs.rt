@@ -8,7 +8,7 @@ ghost use Rattle.lab_state.specs.Run.{run};
 ghost use Rattle.log_text.specs.Log.{open_lines, text};
 ghost use Rattle.monitor.specs.Runs as runs;
 ghost use Rattle.monitor.specs.Inner.Ruling.{IsOnward};
-ghost use Rattle.monitor.specs.Inner.Writing.{IsPlayed, IsRunMade};
+ghost use Rattle.monitor.specs.Inner.Writing.{IsRoundPrinted, IsRunMade};
 
 use crate::halt::Halt;
 use crate::laws;
@@ -80,8 +80,12 @@ impl<D: Device> Monitor<D> {
 }
 
 impl<D: Device + Send> Monitor<D> {
-    /// Plays one round of `q` microseconds. Where memory runs out the laboratory is spent.
-    fn play_silently<R: Threads + Wait + Copy + Send + Sync, G: Gate, W: Watcher<BoxedBoardJob<D>>>(
+    /// Makes one round of `q` microseconds. Where memory runs out the laboratory is spent.
+    fn round_unprinted<
+        R: Threads + Wait + Copy + Send + Sync,
+        G: Gate,
+        W: Watcher<BoxedBoardJob<D>>,
+    >(
         &mut self,
         rt: &R,
         team: &Team<D>,
@@ -102,12 +106,13 @@ impl<D: Device + Send> Monitor<D> {
         ensures plans { OnOk result (HaveAllPlans self.new.state.lab) }
         ensures ended { self.new.ended ≡ true }
     {
-        self.lab.round_by(rt, team, q, self.workers, gate, watcher)
+        self.lab
+            .round_watched(rt, team, q, self.workers, gate, watcher)
     }
 
-    /// Plays one round of `q` microseconds and writes what it prints: by one write of a whole text, and by none where
+    /// Makes one round of `q` microseconds and writes what it prints: by one write of a whole text, and by none where
     /// it has no lines. Gives its pause, if it has one.
-    fn play_round<
+    fn round_printed<
         R: Threads + Wait + Copy + Send + Sync,
         K: Sink,
         G: Gate,
@@ -127,12 +132,12 @@ impl<D: Device + Send> Monitor<D> {
         requires some { 0 < q }
         requires plans { HaveAllPlans self.old.state.lab }
         requires within { self.old.state.lab.now + q ≤ 10000000000 }
-        ensures played { IsPlayed K.Sink names.now (round self.old.state.lab q)
+        ensures printed { IsRoundPrinted K.Sink names.now (round self.old.state.lab q)
             result self.old self.new out.old out.new }
         ensures paused { IfOk result (λ paused. paused ≡ (round self.old.state.lab q).paused) }
         ensures plans { OnOk result (HaveAllPlans self.new.state.lab) }
     {
-        let Ok(log) = self.play_silently(rt, team, q, gate, watcher) else {
+        let Ok(log) = self.round_unprinted(rt, team, q, gate, watcher) else {
             return Err(WriteFault::Memory);
         };
         let Ok(text) = self.print(names, log.lines.items()) else {
@@ -144,8 +149,8 @@ impl<D: Device + Send> Monitor<D> {
         }
     }
 
-    /// Plays the rounds of a run of `d` microseconds, one after another, up to one that has a pause.
-    fn play_rounds<
+    /// Makes the rounds of a run of `d` microseconds, one after another, up to one that has a pause.
+    fn run_printed<
         R: Threads + Wait + Copy + Send + Sync,
         K: Sink,
         G: Gate,
@@ -164,7 +169,7 @@ impl<D: Device + Send> Monitor<D> {
         requires waits { self.old.ended ≡ true }
         requires plans { HaveAllPlans self.old.state.lab }
         requires within { self.old.state.lab.now + d ≤ 10000000000 }
-        ensures { IsPlayed K.Sink names.now (run self.old.state.lab d)
+        ensures { IsRoundPrinted K.Sink names.now (run self.old.state.lab d)
             result self.old self.new out.old out.new }
     {
         log_text::laws::prints_join();
@@ -173,14 +178,14 @@ impl<D: Device + Send> Monitor<D> {
         let mut left = d;
         'rounds: while left > 0 && paused.is_none() {
             let q = left.min(longest);
-            paused = self.play_round(rt, team, names, out, q, gate, watcher)?;
+            paused = self.round_printed(rt, team, names, out, q, gate, watcher)?;
             left -= q;
         }
         Ok(())
     }
 
     /// The same beside the helpers of a team, who are let go at its end, where nobody watches.
-    fn play_beside<R: Threads + Wait + Copy + Send + Sync, K: Sink, G: Gate>(
+    fn run_with_helpers<R: Threads + Wait + Copy + Send + Sync, K: Sink, G: Gate>(
         &mut self,
         rt: &R,
         team: &Team<D>,
@@ -193,7 +198,7 @@ impl<D: Device + Send> Monitor<D> {
         requires waits { self.old.ended ≡ true }
         requires plans { HaveAllPlans self.old.state.lab }
         requires within { self.old.state.lab.now + d ≤ 10000000000 }
-        ensures { IsPlayed K.Sink names.now (run self.old.state.lab d)
+        ensures { IsRoundPrinted K.Sink names.now (run self.old.state.lab d)
             result self.old self.new out.old out.new }
     {
         let alloc = self.alloc;
@@ -201,11 +206,11 @@ impl<D: Device + Send> Monitor<D> {
         let mut lead = || -> Result<(), WriteFault>
             requires { (self.now.spent ≡ false) × (self.now.ended ≡ true)
                 × HaveAllPlans self.now.state.lab × (self.now.state.lab.now + d ≤ 10000000000) }
-            ensures { IsPlayed K.Sink names.entry.now (run self.entry.now.state.lab d)
+            ensures { IsRoundPrinted K.Sink names.entry.now (run self.entry.now.state.lab d)
                 result self.entry.now self.exit.now out.entry.now out.exit.now }
         {
             let mut unwatched = Unwatched::<BoxedBoardJob<D>>::new(alloc);
-            let run = self.play_rounds(rt, team, names, out, d, gate, &mut unwatched);
+            let run = self.run_printed(rt, team, names, out, d, gate, &mut unwatched);
             team.dismiss();
             run
         };
@@ -213,9 +218,14 @@ impl<D: Device + Send> Monitor<D> {
         run
     }
 
-    /// Plays a run of `d` microseconds, by the caller alone or with helpers, who live as long as the run. A watcher who
+    /// Makes a run of `d` microseconds, by the caller alone or with helpers, who live as long as the run. A watcher who
     /// wants to be shown the boards has the caller run them alone.
-    fn play<R: Threads + Wait + Copy + Send + Sync, K: Sink, G: Gate, W: Watcher<BoxedBoardJob<D>>>(
+    fn run_watched<
+        R: Threads + Wait + Copy + Send + Sync,
+        K: Sink,
+        G: Gate,
+        W: Watcher<BoxedBoardJob<D>>,
+    >(
         &mut self,
         rt: &R,
         out: &mut K,
@@ -227,7 +237,7 @@ impl<D: Device + Send> Monitor<D> {
         requires waits { self.old.ended ≡ true }
         requires plans { HaveAllPlans self.old.state.lab }
         requires within { self.old.state.lab.now + d.0 ≤ 10000000000 }
-        ensures { IsPlayed K.Sink (names_of self.old.state.lab) (run self.old.state.lab d.0)
+        ensures { IsRoundPrinted K.Sink (names_of self.old.state.lab) (run self.old.state.lab d.0)
             result self.old self.new out.old out.new }
     {
         let Ok(names) = self.lab.names() else {
@@ -235,9 +245,9 @@ impl<D: Device + Send> Monitor<D> {
         };
         let team = self.lab.team_for(d.0, self.workers, gate);
         if watcher.drives() || !team.has_helpers() {
-            return self.play_rounds(rt, &team, &names, out, d.0, gate, watcher);
+            return self.run_printed(rt, &team, &names, out, d.0, gate, watcher);
         }
-        self.play_beside(rt, &team, &names, out, d.0, gate)
+        self.run_with_helpers(rt, &team, &names, out, d.0, gate)
     }
 
     /// Runs the laboratory, and writes its log. Whether it may run goes by the length that is asked for.
@@ -256,8 +266,8 @@ impl<D: Device + Send> Monitor<D> {
     {
         laws::runs_keep_names();
         self.lab.admit_run(length)?;
-        let played = self.length_of(length);
-        match self.play(rt, out, played, gate, watcher) {
+        let asked = self.length_of(length);
+        match self.run_watched(rt, out, asked, gate, watcher) {
             Ok(()) => Ok(()),
             Err(fault) => Err(Halt::Cut(fault)),
         }

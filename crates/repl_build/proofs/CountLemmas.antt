@@ -9,7 +9,7 @@ use Rattle.repl_build.specs.declared.merge.Peripheral.{Peripheral}
 use Rattle.repl_build.specs.declared.rules.Rule.TheVariants.{Counts}
 use Rattle.repl_build.specs.declared.types.PeripheralType.{PeripheralType}
 use Rattle.repl_build.specs.declared.types.PeripheralType.TheVariants.{Memory, Device}
-use Rattle.repl_build.specs.Counts.{most_of, count_of, are_as_many_as_may_be, passes_memory, is_one_too_many}
+use Rattle.repl_build.specs.Counts.{most_of, count_of, limit_reached, passes_memory, is_one_too_many}
 use Rattle.repl_build.specs.First.{first_fault}
 use Rattle.repl_build.specs.Numbers.{AreFew, devices_of, is_device}
 use Rattle.repl_build.specs.Rules.{peripheral_fault, broken}
@@ -19,9 +19,9 @@ use Rattle.repl_build.proofs.NoneLemmas.{first_none, unbroken}
 use Rattle.repl_build.proofs.TypeLemmas.{is_type_same}
 
 room : (before : List Peripheral) (k : PeripheralType) (o : Option PeripheralType) → o ≡ Some k →
-    are_as_many_as_may_be before o ≡ false → count_of before k < most_of k
+    limit_reached before o ≡ false → count_of before k < most_of k
 room before k o same few =
-    let fits : nat_le (most_of k) (count_of before k) ≡ false = sym (ap (are_as_many_as_may_be before) same) ∙ few in
+    let fits : nat_le (most_of k) (count_of before k) ≡ false = sym (ap (limit_reached before) same) ∙ few in
     grind (arith, nat_tests)
 
 one_more :
@@ -35,7 +35,7 @@ one_more before x k few fits =
     count_of (before ++ x ∷ []) k ≤ most_of k) [
       | true ↦ λ is more.
           let below = room before k x.kind (is_type_same k x.kind is)
-          (or_parts (are_as_many_as_may_be before x.kind) (passes_memory before x) fits).0 in
+          (or_parts (limit_reached before x.kind) (passes_memory before x) fits).0 in
           omega (arith, more, below)
       | false ↦ λ is more. omega (arith, more, few)
     ] refl push

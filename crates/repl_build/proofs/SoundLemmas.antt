@@ -4,7 +4,7 @@ use Rattle.std.specs.List.{list_any}
 use Rattle.std.proofs.lemmas.Bool.{not-false, or_parts}
 use Rattle.repl_build.specs.declared.merge.Peripheral.{Peripheral}
 use Rattle.repl_build.specs.declared.rules.Rule.TheVariants.{Types, Required, Values, Counts, Apart}
-use Rattle.repl_build.specs.Counts.{passes_memory, are_as_many_as_may_be}
+use Rattle.repl_build.specs.Counts.{passes_memory, limit_reached}
 use Rattle.repl_build.specs.First.{first_fault}
 use Rattle.repl_build.specs.Places.{is_registered, has_required, is_place, is_misplaced, step_of, overlaps, end_of}
 use Rattle.repl_build.specs.Processors.{is_out_of_step}
@@ -54,7 +54,7 @@ sound_from all before (p ∷ ps) types required values counts apart =
       placed = not-false (is_place p.kind (step_of p.kind p.items) p.at) parts.0;
       values = value.1;
       step = parts.1;
-      few = (or_parts (are_as_many_as_may_be before p.kind) (passes_memory before p)
+      few = (or_parts (limit_reached before p.kind) (passes_memory before p)
           (unbroken Counts all before p c.0).0).1;
       apart = collides.1;
       addressed = collides.0;

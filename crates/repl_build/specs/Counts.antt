@@ -24,9 +24,9 @@ count_of peripherals type_ = count_by (λ p. is_type type_ p.kind) peripherals
 abbrev pub first_with : PeripheralType → List Peripheral → Option Peripheral
 first_with type_ peripherals = find (λ p. is_type type_ p.kind) peripherals
 
-abbrev pub are_as_many_as_may_be : List Peripheral → Option PeripheralType → Bool
-are_as_many_as_may_be before (Some type_) = nat_le (most_of type_) (count_of before type_)
-are_as_many_as_may_be before None = false
+abbrev pub limit_reached : List Peripheral → Option PeripheralType → Bool
+limit_reached before (Some type_) = nat_le (most_of type_) (count_of before type_)
+limit_reached before None = false
 
 -- the bytes of a memory
 abbrev pub bytes_of : Peripheral → ℕ
@@ -37,7 +37,7 @@ passes_memory before p = is_type Memory p.kind && nat_lt most_memory (bytes_of p
 
 -- test 8: the entry that is one too many, or the memory that passes 64 MiB
 abbrev pub is_one_too_many : List Peripheral → Peripheral → Bool
-is_one_too_many before p = are_as_many_as_may_be before p.kind || passes_memory before p
+is_one_too_many before p = limit_reached before p.kind || passes_memory before p
 
 abbrev pub has_type : PeripheralType → List Peripheral → Bool
 has_type type_ peripherals = list_any (λ p. is_type type_ p.kind) peripherals

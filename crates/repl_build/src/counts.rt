@@ -36,8 +36,8 @@ pub(crate) fn first_with(kind: PeripheralType, all: &[Peripheral]) -> Option<&Pe
     all.iter().find(|p| is_type(kind, p.kind))
 }
 
-fn are_as_many_as_may_be(before: &[Peripheral], kind: Option<PeripheralType>) -> bool
-    ensures { result ≡ counts_spec.are_as_many_as_may_be before.now kind }
+fn limit_reached(before: &[Peripheral], kind: Option<PeripheralType>) -> bool
+    ensures { result ≡ counts_spec.limit_reached before.now kind }
 {
     match kind {
         Some(kind) => most_of(kind) <= count_of(before, kind),
@@ -80,7 +80,7 @@ fn passes_memory(before: &[Peripheral], p: &Peripheral) -> bool
 pub(crate) fn is_one_too_many(before: &[Peripheral], p: &Peripheral) -> bool
     ensures { result ≡ counts_spec.is_one_too_many before.now p.now }
 {
-    are_as_many_as_may_be(before, p.kind) || passes_memory(before, p)
+    limit_reached(before, p.kind) || passes_memory(before, p)
 }
 
 fn has_type(kind: PeripheralType, peripherals: &[Peripheral]) -> bool

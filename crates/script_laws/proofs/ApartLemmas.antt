@@ -6,7 +6,7 @@ use Rattle.lab_io.specs.Held.{Held}
 use Rattle.lab_num.specs.declared.key.Member.{Member}
 use Rattle.lab_state.specs.Lab.{Lab}
 use Rattle.lab_state.specs.Names.{connected_to}
-use Rattle.lab_state.specs.Run.{Play}
+use Rattle.lab_state.specs.Run.{Runner}
 use Rattle.log_text.specs.declared.line.OpenLine.{OpenLine}
 use Rattle.repl_build.specs.Plan.{built}
 use Rattle.repl_files.specs.Loading.{Loading, Outcome, Joined, Refused, Oversized, Absent}
@@ -171,7 +171,7 @@ module _ (AreFlows : script.State → script.State → Type 0) where
           AreDone (unread place one) (unread at two)
       unread_apart one two are = record { names = refl; answers = answered_apart one two are }
 
-      module _ (play : Play) (held : Held) (Or : Did → Did → Type 0)
+      module _ (runner : Runner) (held : Held) (Or : Did → Did → Type 0)
           (or : (one two : Did) → AreDone one two → Or one two)
           (platforms : (path : List ℕ) → Or (load_platform held s place path) (load_platform held other at path))
           (includes : (path : List ℕ) → Or (include held s place path) (include held other at path))
@@ -179,7 +179,7 @@ module _ (AreFlows : script.State → script.State → Type 0) where
         done_apart : (one two : Result Done ScriptCause) → AreApartBy one two → Or (unread place one) (unread at two)
         done_apart one two are = or _ _ (unread_apart one two are)
 
-        work_apart : (line : Command) → Or (does held place (work play s line)) (does held at (work play other line))
+        work_apart : (line : Command) → Or (does held place (work runner s line)) (does held at (work runner other line))
         work_apart (command.LoadPlatform path) = platforms path
         work_apart (command.LoadElf path) =
             or _ _ (loads_apart held path (equipped s) (λ on bytes. load_read s place on (elf_image bytes))
@@ -211,7 +211,7 @@ module _ (AreFlows : script.State → script.State → Type 0) where
             done_apart (mips s cpu value) (mips other cpu value) (search (then_apart, mips_apart))
         work_apart (command.Quantum time) = or _ _ (record { names = refl; answers = leaf _ _ _ _ })
         work_apart (command.RunFor time) =
-            done_apart (run_for play s time.0) (run_for play other time.0) (search (then_apart, left))
+            done_apart (run_for runner s time.0) (run_for runner other time.0) (search (then_apart, left))
         work_apart (command.UartHub name delay) =
             done_apart (uart_hub s name delay.0) (uart_hub other name delay.0) (search (then_apart, left))
         work_apart (command.CanHub name delay) =
@@ -223,7 +223,7 @@ module _ (AreFlows : script.State → script.State → Type 0) where
         work_apart command.UsingSysbus = or _ _ (record { names = refl; answers = leaf _ _ _ _ })
         work_apart command.Pause = or _ _ (record { names = refl; answers = leaf _ _ _ _ })
         work_apart command.Start =
-            done_apart (start play s) (start play other) (search (then_apart, left))
+            done_apart (start runner s) (start runner other) (search (then_apart, left))
         work_apart (command.Save path) =
             or _ _ (record { names = refl; answers = (refl, refl, refl, record { same = refl; flows = are }) })
         work_apart (command.Load path) =
@@ -231,6 +231,6 @@ module _ (AreFlows : script.State → script.State → Type 0) where
         work_apart command.Quit = or _ _ (record { names = refl; answers = tt })
 
         pub line_apart : (line : Result Command LineCause) →
-            Or (done_by play held s place line) (done_by play held other at line)
+            Or (done_by runner held s place line) (done_by runner held other at line)
         line_apart (Ok line) = work_apart line
         line_apart (Err why) = done_apart (Err (cause_of why)) (Err (cause_of why)) refl

@@ -8,7 +8,7 @@ use Rattle.lab_io.specs.Store.{StoreUse, get_of, put_of}
 use Rattle.lab_snap.specs.Saved.{spelling}
 use Rattle.lab_snap.specs.Snapshot.{snapshot_of}
 use Rattle.lab_state.specs.Lab.{Lab}
-use Rattle.lab_state.specs.Run.{Play}
+use Rattle.lab_state.specs.Run.{Runner}
 use Rattle.log_text.specs.declared.line.OpenLine.{OpenLine}
 use Rattle.resc_vars.specs.declared.cause.ScriptCause.TheVariants.{Size, Occupied}
 use Rattle.resc_vars.specs.Behind.{main_file}
@@ -46,9 +46,9 @@ state_aside further kept s one two done = by_answer done.names done.answer
     by_answer names (Faults fault) = refl
     by_answer names Misses = refl
 
-module _ (facts : LinesBehind) (play : Play) (held : Held) (main text more : List ℕ) where
+module _ (facts : LinesBehind) (runner : Runner) (held : Held) (main text more : List ℕ) where
   abbrev Starts : Transcript → Transcript → Type 0
-  Starts = Begins play held main text more
+  Starts = Begins runner held main text more
 
   abbrev longest : State → State
   longest = long facts main text more
@@ -68,7 +68,7 @@ module _ (facts : LinesBehind) (play : Play) (held : Held) (main text more : Lis
     goes_on =
         ap (after names written) on.goes_on
         ∙ after_followed names written on.ahead
-        (from (suc on.left) play held on.kept (behind main text more on.taken_with on.state));
+        (from (suc on.left) runner held on.kept (behind main text more on.taken_with on.state));
     refused = λ fault faults. (
       ap (λ bytes. written ++ bytes) (on.refused fault faults).0
           ∙ sym (append_assoc written one.bytes (last_line (Script fault))),
@@ -180,16 +180,16 @@ module _ (facts : LinesBehind) (play : Play) (held : Held) (main text more : Lis
     onward_begins _ _ are = absurd are
 
   ends_here : (n : ℕ) (kept : Held) (s : State) →
-      EndsHere facts main text more play held s (did play held s) (did play held (longest s)) →
-      Starts (from (suc n) play held kept s) (from (suc n) play held kept (longest s))
+      EndsHere facts main text more runner held s (did runner held s) (did runner held (longest s)) →
+      Starts (from (suc n) runner held kept s) (from (suc n) runner held kept (longest s))
   unfolding from
   ends_here n kept s (with, ends, on) =
       let later = behind main text more with s in
-      let further = from n play held in
-      let two : from (suc n) play held kept (longest s) ≡ from (suc n) play held kept later =
+      let further = from n runner held in
+      let two : from (suc n) runner held kept (longest s) ≡ from (suc n) runner held kept later =
       ap (onward further kept (longest s)) on
-      ∙ state_aside further kept s (longest s).flow later.flow (did play held later) in
-      let one : from (suc n) play held kept s ≡ stopped kept [] s Done = ap (onward further kept s) ends in
+      ∙ state_aside further kept s (longest s).flow later.flow (did runner held later) in
+      let one : from (suc n) runner held kept s ≡ stopped kept [] s Done = ap (onward further kept s) ends in
       inr (record {
         ahead = ended kept Done;
         kept = kept;
@@ -197,9 +197,9 @@ module _ (facts : LinesBehind) (play : Play) (held : Held) (main text more : Lis
         taken_with = with;
         left = n;
         ends = one ∙ nothing_followed kept (stopped kept [] s Done);
-        goes_on = two ∙ nothing_followed kept (from (suc n) play held kept later);
+        goes_on = two ∙ nothing_followed kept (from (suc n) runner held kept later);
         refused = λ fault faults.
-            let now = refused_now play held n kept later fault faults in (
+            let now = refused_now runner held n kept later fault faults in (
               ap (λ (run : Transcript). run.bytes) two
                   ∙ now.0
                   ∙ ap (λ (run : Transcript). run.bytes ++ last_line (Script fault)) (sym one),
@@ -207,19 +207,19 @@ module _ (facts : LinesBehind) (play : Play) (held : Held) (main text more : Lis
             );
       })
 
-  pub from_begins : (n : ℕ) → AllBegin (from n play held)
+  pub from_begins : (n : ℕ) → AllBegin (from n runner held)
   unfolding from
   from_begins zero kept s is = inl refl
   from_begins (suc n) kept s is =
-      elim (did_longer facts main text more play held s is) [
+      elim (did_longer facts main text more runner held s is) [
         | inl does ↦
-            let one = did play held s in
-            let two = did play held (longest s) in
+            let one = did runner held s in
+            let two = did runner held (longest s) in
             subst
-            (λ names. Starts (onward (from n play held) kept s one)
-            (onward (from n play held) kept (longest s) (record { names = names; answer = two.answer })))
+            (λ names. Starts (onward (from n runner held) kept s one)
+            (onward (from n runner held) kept (longest s) (record { names = names; answer = two.answer })))
             (sym does.1.names)
-            (onward_begins (from n play held) (from_begins n) kept s one.names does.0 one.answer two.answer
+            (onward_begins (from n runner held) (from_begins n) kept s one.names does.0 one.answer two.answer
             does.1.answers)
         | inr here ↦ ends_here n kept s here
       ]

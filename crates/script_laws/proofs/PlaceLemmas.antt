@@ -6,7 +6,7 @@ use Rattle.std.specs.FinMap.{get}
 use Rattle.lab_io.specs.Held.{Held}
 use Rattle.lab_io.specs.Whole.{FileText, Missing, Large, Broken, Readable, file_text}
 use Rattle.lab_num.specs.Depth.{depth_limit}
-use Rattle.lab_state.specs.Run.{Play}
+use Rattle.lab_state.specs.Run.{Runner}
 use Rattle.repl_files.specs.Loading.{Loading, Outcome, Joined, Refused, Oversized, Absent, load}
 use Rattle.resc_read.specs.Line.{line_of}
 use Rattle.resc_vars.specs.declared.cause.ScriptCause.{ScriptCause}
@@ -163,20 +163,20 @@ at_places : (t u : ℕ) (place at : LinePlace) (one two : Did) →
 at_places t u place at one two (inl does) = inl (place, at, does)
 at_places t u place at one two (inr limit) = inr limit
 
-module _ (facts : PlacesAside) (play : Play) (held : Held) (s : State) (g : script.State) where
+module _ (facts : PlacesAside) (runner : Runner) (held : Held) (s : State) (g : script.State) where
   line_same : (t u : ℕ) (place at : LinePlace) (text : List ℕ) (flow other : script.State) → AreSame t u flow other →
-      DoAlike t u (by_next play held s (script.Gives place.file place.number text flow))
-      (by_next play held (record s { flow = g }) (script.Gives at.file at.number text other))
+      DoAlike t u (by_next runner held s (script.Gives place.file place.number text flow))
+      (by_next runner held (record s { flow = g }) (script.Gives at.file at.number text other))
   line_same t u place at text flow other are =
       let before : State = record s { flow = flow } in
       at_places t u place at _ _
-      (line_apart (AreSame t u) place at before other are play held
+      (line_apart (AreSame t u) place at before other are runner held
       (DoneOr facts t u before other are place at) (λ one two are. inl are)
       (platform_or facts t u before other are place at held) (include_or facts t u before other are place at held)
       (macro_or facts t u before other are place at) (line_of text))
 
   next_same : (t u : ℕ) (next other : script.Outcome) → AreNextAlike next other → TakesMore t next → TakesMore u other →
-      DoAlike t u (by_next play held s next) (by_next play held (record s { flow = g }) other)
+      DoAlike t u (by_next runner held s next) (by_next runner held (record s { flow = g }) other)
   next_same t u (script.Refuses file n why kept) other (inl full) takes takes_too =
       inr (inl (inr (ap cause.Script full)))
   next_same t u (script.Gives file n text flow) other (inl full) takes takes_too = absurd full
@@ -215,7 +215,7 @@ module _ (facts : PlacesAside) (play : Play) (held : Held) (s : State) (g : scri
   next_same t u (script.Refuses file n why kept) (script.Ends kept') (inr (inr are)) takes takes_too = absurd are
 
   pub did_same : MeansSame s.flow g →
-      DoAlike s.flow.kept.taken g.kept.taken (did play held s) (did play held (record s { flow = g }))
+      DoAlike s.flow.kept.taken g.kept.taken (did runner held s) (did runner held (record s { flow = g }))
   unfolding did
   did_same same =
       next_same s.flow.kept.taken g.kept.taken (next_of s.flow) (next_of g) (facts.next s.flow g same)

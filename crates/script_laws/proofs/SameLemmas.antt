@@ -9,7 +9,7 @@ use Rattle.lab_snap.specs.Saved.{spelling}
 use Rattle.lab_snap.specs.Snapshot.{snapshot_of}
 use Rattle.lab_state.specs.Lab.{Lab}
 use Rattle.lab_state.specs.Names.{names as names_of}
-use Rattle.lab_state.specs.Run.{Play}
+use Rattle.lab_state.specs.Run.{Runner}
 use Rattle.log_text.specs.declared.line.OpenLine.{OpenLine}
 use Rattle.log_text.specs.Log.{rest}
 use Rattle.resc_vars.specs.declared.cause.ScriptCause.TheVariants.{Size, Occupied}
@@ -176,35 +176,35 @@ module _ (first second : Further) (t u : ℕ)
     onward_one _ _ are = absurd are
 
 -- so many commands are enough for all that may come
-abbrev AllOne : ℕ → ℕ → Play → Held → Type 0
-AllOne n m play held =
+abbrev AllOne : ℕ → ℕ → Runner → Held → Type 0
+AllOne n m runner held =
     (kept : Held) (s : State) (g : script.State) → MeansSame s.flow g → s.flow.kept.taken ≤ 100000 →
     g.kept.taken ≤ 100000 → 100000 < n + s.flow.kept.taken → 100000 < m + g.kept.taken →
-    AreOneWithinLimits (from n play held kept s) (from m play held kept (record s { flow = g }))
+    AreOneWithinLimits (from n runner held kept s) (from m runner held kept (record s { flow = g }))
 
-step_one : (n m : ℕ) (play : Play) (held : Held) → AllOne n m play held → (kept : Held) (s : State) (g : script.State) →
+step_one : (n m : ℕ) (runner : Runner) (held : Held) → AllOne n m runner held → (kept : Held) (s : State) (g : script.State) →
     100000 < suc n + s.flow.kept.taken → 100000 < suc m + g.kept.taken → (one two : Did) →
     DoAlike s.flow.kept.taken g.kept.taken one two →
-    AreOneWithinLimits (onward (from n play held) kept s one)
-    (onward (from m play held) kept (record s { flow = g }) two)
-step_one n m play held all kept s g enough enough_too one two (inl (place, at, does)) =
+    AreOneWithinLimits (onward (from n runner held) kept s one)
+    (onward (from m runner held) kept (record s { flow = g }) two)
+step_one n m runner held all kept s g enough enough_too one two (inl (place, at, does)) =
     subst
-    (λ names. AreOneWithinLimits (onward (from n play held) kept s one)
-    (onward (from m play held) kept (record s { flow = g }) (record { names = names; answer = two.answer })))
+    (λ names. AreOneWithinLimits (onward (from n runner held) kept s one)
+    (onward (from m runner held) kept (record s { flow = g }) (record { names = names; answer = two.answer })))
     (sym does.names)
-    (onward_one (from n play held) (from m play held) s.flow.kept.taken g.kept.taken
+    (onward_one (from n runner held) (from m runner held) s.flow.kept.taken g.kept.taken
     (λ kept next flow are. all kept next flow are.same are.within are.within_too
     (let more = are.more in omega (arith, enough, more)) (let more = are.more_too in omega (arith, enough_too, more)))
     place at kept s g one.names one.answer two.answer does.answers)
-step_one n m play held all kept s g enough enough_too one two (inr (inl limit)) =
-    inl (limit_ends (from n play held) kept s one.names one.answer limit)
-step_one n m play held all kept s g enough enough_too one two (inr (inr limit)) =
-    inr (inl (limit_ends (from m play held) kept (record s { flow = g }) two.names two.answer limit))
+step_one n m runner held all kept s g enough enough_too one two (inr (inl limit)) =
+    inl (limit_ends (from n runner held) kept s one.names one.answer limit)
+step_one n m runner held all kept s g enough enough_too one two (inr (inr limit)) =
+    inr (inl (limit_ends (from m runner held) kept (record s { flow = g }) two.names two.answer limit))
 
-pub from_one : (facts : PlacesAside) (n m : ℕ) (play : Play) (held : Held) → AllOne n m play held
+pub from_one : (facts : PlacesAside) (n m : ℕ) (runner : Runner) (held : Held) → AllOne n m runner held
 unfolding from
-from_one facts zero m play held kept s g same few few_too enough enough_too = absurd (omega arith)
-from_one facts (suc n) zero play held kept s g same few few_too enough enough_too = absurd (omega arith)
-from_one facts (suc n) (suc m) play held kept s g same few few_too enough enough_too =
-    step_one n m play held (from_one facts n m play held) kept s g enough enough_too (did play held s)
-    (did play held (record s { flow = g })) (did_same facts play held s g same)
+from_one facts zero m runner held kept s g same few few_too enough enough_too = absurd (omega arith)
+from_one facts (suc n) zero runner held kept s g same few few_too enough enough_too = absurd (omega arith)
+from_one facts (suc n) (suc m) runner held kept s g same few few_too enough enough_too =
+    step_one n m runner held (from_one facts n m runner held) kept s g enough enough_too (did runner held s)
+    (did runner held (record s { flow = g })) (did_same facts runner held s g same)

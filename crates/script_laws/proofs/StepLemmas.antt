@@ -5,7 +5,7 @@ use Rattle.std.specs.FinMap.{get}
 use Rattle.lab_io.specs.Held.{Held}
 use Rattle.lab_io.specs.Whole.{FileText, Missing, Large, Broken, Readable, file_text}
 use Rattle.lab_num.specs.Depth.{depth_limit}
-use Rattle.lab_state.specs.Run.{Play}
+use Rattle.lab_state.specs.Run.{Runner}
 use Rattle.repl_files.specs.Loading.{load}
 use Rattle.resc_read.specs.Line.{line_of}
 use Rattle.resc_vars.specs.declared.cause.ScriptCause.{ScriptCause}
@@ -55,7 +55,7 @@ module _ (facts : LinesBehind) (main text more : List ℕ) where
   abbrev pub long : State → State
   long s = record s { flow = with_behind (items_behind text more) s.flow }
 
-  module _ (play : Play) (held : Held) (s : State) (is : main_file s.flow ≡ main) (place : LinePlace) where
+  module _ (runner : Runner) (held : Held) (s : State) (is : main_file s.flow ≡ main) (place : LinePlace) where
     abbrev ApartBy : Result answer.Done ScriptCause → Result answer.Done ScriptCause → Type 0
     ApartBy = AreApartBy AreLonger
 
@@ -106,25 +106,25 @@ module _ (facts : LinesBehind) (main text more : List ℕ) where
         (λ after ok. (facts.in_macro s.flow after name ok).1 ∙ is))
 
   -- what comes of what is next does not rest on the script
-  flow_aside : (play : Play) (held : Held) (s : State) (one two : script.State) (next : script.Outcome) →
-      by_next play held (record s { flow = one }) next ≡ by_next play held (record s { flow = two }) next
-  flow_aside play held s one two (script.Gives file n line flow) = refl
-  flow_aside play held s one two (script.Ends kept) = refl
-  flow_aside play held s one two (script.Refuses file n why kept) = refl
+  flow_aside : (runner : Runner) (held : Held) (s : State) (one two : script.State) (next : script.Outcome) →
+      by_next runner held (record s { flow = one }) next ≡ by_next runner held (record s { flow = two }) next
+  flow_aside runner held s one two (script.Gives file n line flow) = refl
+  flow_aside runner held s one two (script.Ends kept) = refl
+  flow_aside runner held s one two (script.Refuses file n why kept) = refl
 
   -- Both scripts do the same, at one place, or the first has ended and the other does what the lines behind do.
   abbrev pub DoAlike : Did → Did → Type 0
   DoAlike one two = (place : LinePlace) × AreDone AreLonger place place one two
 
-  abbrev pub EndsHere : Play → Held → State → Did → Did → Type 0
-  EndsHere play held s one two =
-      (with : Kept) × (one ≡ without_files answer.Ends) × (two ≡ did play held (behind main text more with s))
+  abbrev pub EndsHere : Runner → Held → State → Did → Did → Type 0
+  EndsHere runner held s one two =
+      (with : Kept) × (one ≡ without_files answer.Ends) × (two ≡ did runner held (behind main text more with s))
 
-  module _ (play : Play) (held : Held) (s : State) where
+  module _ (runner : Runner) (held : Held) (s : State) where
     step : (next longest : script.Outcome) → longest ≡ next_behind main (items_behind text more) next →
         IfGives next (λ after. main_file after ≡ main) →
-        DoAlike (by_next play held s next) (by_next play held (long s) longest)
-        ⊎ EndsHere play held s (by_next play held s next) (by_next play held (long s) longest)
+        DoAlike (by_next runner held s next) (by_next runner held (long s) longest)
+        ⊎ EndsHere runner held s (by_next runner held s next) (by_next runner held (long s) longest)
     unfolding did
     step (script.Gives file n line flow) longest longest_is keeps =
         let place : LinePlace = record { file = file; number = n } in
@@ -133,16 +133,16 @@ module _ (facts : LinesBehind) (main text more : List ℕ) where
         (inl (
           place,
           line_apart AreLonger place place before (with_behind (items_behind text more) flow) (refl, keeps)
-              play held (AreDone AreLonger place place) (λ one two are. are) (platform_done play held before keeps
+              runner held (AreDone AreLonger place place) (λ one two are. are) (platform_done runner held before keeps
               place)
-              (include_done play held before keeps place) (macro_done play held before keeps place) (line_of line),
+              (include_done runner held before keeps place) (macro_done runner held before keeps place) (line_of line),
         ))
     step (script.Ends kept) longest longest_is keeps =
         inr (
           kept,
           refl,
-          ap (by_next play held (long s)) longest_is
-              ∙ flow_aside play held s (with_behind (items_behind text more) s.flow)
+          ap (by_next runner held (long s)) longest_is
+              ∙ flow_aside runner held s (with_behind (items_behind text more) s.flow)
               (state_of main (items_behind text more) [] kept) (next_of (state_of main (items_behind text more) []
               kept)),
         )
@@ -156,11 +156,11 @@ module _ (facts : LinesBehind) (main text more : List ℕ) where
   gives_main one two (script.Ends kept) is holds = tt
   gives_main one two (script.Refuses file n why kept) is holds = tt
 
-  pub did_longer : (play : Play) (held : Held) (s : State) → main_file s.flow ≡ main →
-      DoAlike (did play held s) (did play held (long s))
-      ⊎ EndsHere play held s (did play held s) (did play held (long s))
+  pub did_longer : (runner : Runner) (held : Held) (s : State) → main_file s.flow ≡ main →
+      DoAlike (did runner held s) (did runner held (long s))
+      ⊎ EndsHere runner held s (did runner held s) (did runner held (long s))
   unfolding did
-  did_longer play held s is =
-      step play held s (next_of s.flow) (next_of (with_behind (items_behind text more) s.flow))
+  did_longer runner held s is =
+      step runner held s (next_of s.flow) (next_of (with_behind (items_behind text more) s.flow))
       (facts.next text more s.flow ∙ ap (λ file. next_behind file (items_behind text more) (next_of s.flow)) is)
       (gives_main (main_file s.flow) main (next_of s.flow) is (facts.main s.flow))

@@ -10,7 +10,7 @@ use Rattle.lab_snap.specs.Snapshot.{snapshot_of}
 use Rattle.lab_num.specs.Depth.{depth_limit}
 use Rattle.lab_state.specs.Lab.{Lab}
 use Rattle.lab_state.specs.Names.{names as names_of}
-use Rattle.lab_state.specs.Run.{Play}
+use Rattle.lab_state.specs.Run.{Runner}
 use Rattle.log_text.specs.declared.line.OpenLine.{OpenLine}
 use Rattle.log_text.specs.Log.{rest}
 use Rattle.repl_build.specs.Plan.{built}
@@ -106,8 +106,8 @@ include_of : (s : State) (place : LinePlace) (path : List ℕ) (text : FileText)
 include_of s place path text (Ok done) = text_of s place path text
 include_of s place path text (Err why) = tt
 
-module _ (play : Play) (held : Held) where
-  work_stays : (s : State) (place : LinePlace) (line : Command) → Stays s (does held place (work play s line)).answer
+module _ (runner : Runner) (held : Held) where
+  work_stays : (s : State) (place : LinePlace) (line : Command) → Stays s (does held place (work runner s line)).answer
   work_stays s place (command.LoadPlatform path) = onto s place (load held (length s.flow.outer) path) (bare s)
   work_stays s place (command.LoadElf path) =
       loads_of held s place path (equipped s) (λ on bytes. load_read s place on (elf_image bytes))
@@ -143,17 +143,17 @@ module _ (play : Play) (held : Held) where
   work_stays s place command.Quit = tt
 
   line_stays : (s : State) (place : LinePlace) (line : Result Command LineCause) →
-      Stays s (done_by play held s place line).answer
+      Stays s (done_by runner held s place line).answer
   line_stays s place (Ok line) = work_stays s place line
   line_stays s place (Err why) = tt
 
-  next_stays : (s : State) (next : script.Outcome) → Stays s (by_next play held s next).answer
+  next_stays : (s : State) (next : script.Outcome) → Stays s (by_next runner held s next).answer
   next_stays s (script.Gives file n text flow) =
       line_stays (record s { flow = flow }) (record { file = file; number = n }) (line_of text)
   next_stays s (script.Ends kept) = tt
   next_stays s (script.Refuses file n why kept) = tt
 
-  pub did_stays : (s : State) → Stays s (did play held s).answer
+  pub did_stays : (s : State) → Stays s (did runner held s).answer
   unfolding did
   did_stays s = next_stays s (next_of s.flow)
 
@@ -174,52 +174,52 @@ module _ (play : Play) (held : Held) where
       (lines : next.lines ≡ s.lines) where
     saving_refused : (large dry : Bool) (name bytes : List ℕ) →
         (if large then refused kept place next Size
-        else if dry then from zero play held kept next
-        else using (put_of name bytes) (from zero play held (insert kept name bytes) next)).outcome ≡ Script fault →
+        else if dry then from zero runner held kept next
+        else using (put_of name bytes) (from zero runner held (insert kept name bytes) next)).outcome ≡ Script fault →
         RefusedAt kept s fault
         (if large then refused kept place next Size
-        else if dry then from n play held kept next
-        else using (put_of name bytes) (from n play held (insert kept name bytes) next))
+        else if dry then from n runner held kept next
+        else using (put_of name bytes) (from n runner held (insert kept name bytes) next))
     unfolding from
     saving_refused true dry name bytes is = (line_written s next _ fault lab lines is, is)
     saving_refused false true name bytes is = absurd (cc)
     saving_refused false false name bytes is = absurd (cc)
 
     resuming_refused : (there : Option (Lab × List OpenLine)) →
-        (resuming (from zero play held) kept place next there).outcome ≡ Script fault →
-        RefusedAt kept s fault (resuming (from n play held) kept place next there)
+        (resuming (from zero runner held) kept place next there).outcome ≡ Script fault →
+        RefusedAt kept s fault (resuming (from n runner held) kept place next there)
     unfolding from
     resuming_refused None is = (line_written s next _ fault lab lines is, is)
     resuming_refused (Some found) is = absurd (cc)
 
     large_refused : (large : Bool) (there : Option (Lab × List OpenLine)) →
-        (if large then refused kept place next Size else resuming (from zero play held) kept place next there).outcome
+        (if large then refused kept place next Size else resuming (from zero runner held) kept place next there).outcome
         ≡ Script fault →
         RefusedAt kept s fault
-        (if large then refused kept place next Size else resuming (from n play held) kept place next there)
+        (if large then refused kept place next Size else resuming (from n runner held) kept place next there)
     large_refused true there is = (line_written s next _ fault lab lines is, is)
     large_refused false there is = resuming_refused there is
 
     found_refused : (there : Option (List ℕ)) →
-        (loading_kept (from zero play held) kept place next there).outcome ≡ Script fault →
-        RefusedAt kept s fault (loading_kept (from n play held) kept place next there)
+        (loading_kept (from zero runner held) kept place next there).outcome ≡ Script fault →
+        RefusedAt kept s fault (loading_kept (from n runner held) kept place next there)
     found_refused None is = absurd (cc)
     found_refused (Some bytes) is = large_refused (is_large bytes) (snapshot_of bytes) is
 
     loading_refused : (occupied : Bool) (name : List ℕ) →
         (if occupied then refused kept place next Occupied
-        else using (get_of name) (loading_kept (from zero play held) kept place next (get kept name))).outcome
+        else using (get_of name) (loading_kept (from zero runner held) kept place next (get kept name))).outcome
         ≡ Script fault →
         RefusedAt kept s fault
         (if occupied then refused kept place next Occupied
-        else using (get_of name) (loading_kept (from n play held) kept place next (get kept name)))
+        else using (get_of name) (loading_kept (from n runner held) kept place next (get kept name)))
     loading_refused true name is = (line_written s next _ fault lab lines is, is)
     loading_refused false name is = found_refused (get kept name) is
 
   answer_refused : (n : ℕ) (kept : Held) (s : State) (fault : ScriptFault) (names : List (List ℕ)) (one : Answer) →
       Stays s one →
-      (onward (from zero play held) kept s (record { names = names; answer = one })).outcome ≡ Script fault →
-      RefusedAt kept s fault (onward (from n play held) kept s (record { names = names; answer = one }))
+      (onward (from zero runner held) kept s (record { names = names; answer = one })).outcome ≡ Script fault →
+      RefusedAt kept s fault (onward (from n runner held) kept s (record { names = names; answer = one }))
   unfolding from
   answer_refused n kept s fault names (Goes text next) stays is = absurd (cc)
   answer_refused n kept s fault names (Saves name place next) stays is =
@@ -233,8 +233,8 @@ module _ (play : Play) (held : Held) where
 
   -- where one command is refused, so are all that may come
   pub refused_now : (n : ℕ) (kept : Held) (s : State) (fault : ScriptFault) →
-      (from 1 play held kept s).outcome ≡ Script fault →
-      RefusedAt kept s fault (from (suc n) play held kept s)
+      (from 1 runner held kept s).outcome ≡ Script fault →
+      RefusedAt kept s fault (from (suc n) runner held kept s)
   unfolding from
   refused_now n kept s fault is =
-      answer_refused n kept s fault (did play held s).names (did play held s).answer (did_stays s) is
+      answer_refused n kept s fault (did runner held s).names (did runner held s).answer (did_stays s) is

@@ -1,7 +1,7 @@
 -- A script, and the same script with more lines behind.
 use Rattle.std.specs.Prelude.{◌≡◌, ◌⊎◌, ℕ, suc, List, [], ◌++◌, length, map, Some}
 use Rattle.lab_io.specs.Held.{Held}
-use Rattle.lab_state.specs.Run.{Play}
+use Rattle.lab_state.specs.Run.{Runner}
 use Rattle.lab_top.specs.Content.{Readable, content_of}
 use Rattle.lab_top.specs.Transcript.{Transcript, Done, Script, from, last_line, read_later, stopped, use_later}
 use Rattle.monitor.specs.declared.fault.ScriptFault.{ScriptFault}
@@ -31,19 +31,19 @@ behind script text more with s = record s { flow = state_of script (items_behind
 -- call for by then is `ahead`. There the first prints its open lines and ends, and the second goes on, in the same
 -- laboratory, with the same selected board, open lines, variables, macros and count of commands. If its next command is
 -- refused, it has written what the first has written, and then the refusal.
-pub record GoesOn (play : Play) (held : Held) (script text more : List ℕ) (one two : Transcript) : Type 0 where
+pub record GoesOn (runner : Runner) (held : Held) (script text more : List ℕ) (one two : Transcript) : Type 0 where
   pub ahead : Transcript
   pub kept : Held
   pub state : State
   pub taken_with : Kept
   pub left : ℕ
   pub ends : one ≡ followed ahead (stopped kept [] state Done)
-  pub goes_on : two ≡ followed ahead (from (suc left) play held kept (behind script text more taken_with state))
+  pub goes_on : two ≡ followed ahead (from (suc left) runner held kept (behind script text more taken_with state))
   pub refused : (fault : ScriptFault) →
-      (from 1 play held kept (behind script text more taken_with state)).outcome ≡ Script fault →
+      (from 1 runner held kept (behind script text more taken_with state)).outcome ≡ Script fault →
       (two.bytes ≡ one.bytes ++ last_line (Script fault)) × (two.outcome ≡ Script fault)
 
 -- The run of a script begins that of the script with more lines behind: it ends before its last line and is the other,
 -- or it comes to its end, from which the other goes on.
-abbrev pub Begins : Play → Held → List ℕ → List ℕ → List ℕ → Transcript → Transcript → Type 0
-Begins play held script text more one two = (two ≡ one) ⊎ GoesOn play held script text more one two
+abbrev pub Begins : Runner → Held → List ℕ → List ℕ → List ℕ → Transcript → Transcript → Type 0
+Begins runner held script text more one two = (two ≡ one) ⊎ GoesOn runner held script text more one two

@@ -13,7 +13,7 @@ use Rattle.lab_state.specs.Hub.{Hub}
 use Rattle.lab_state.specs.Round.{granted, stepped, posts_made, slot_items, pause_items}
 
 -- the boards, the posts that go on waiting, the items of the log, and the pause that was asked for, if one was
-pub record Played : Type 0 where
+pub record RoundMade : Type 0 where
   pub boards : List Board
   pub pending : List Post
   pub items : List LogItem
@@ -24,8 +24,8 @@ abbrev pub in_round : ℕ → ℕ → View → State
 in_round from q = granted from (from + q)
 
 -- what boards, hubs and the posts that wait come to in a round that begins at a microsecond and is so long
-abbrev pub played : ℕ → ℕ → List Hub → List Board → List Post → Played
-played from q hubs boards pending =
+abbrev pub round_made : ℕ → ℕ → List Hub → List Board → List Post → RoundMade
+round_made from q hubs boards pending =
     let grant = in_round from q in
     let end = boundary (from + q) hubs (map (stepped grant) boards) pending (flat_map (posts_made grant) boards) in
     record {

@@ -196,7 +196,7 @@ fn are_overruns(lines: &[LogItem], boards: &[u8]) -> bool {
             .all(|(line, board)| is_overrun(line, *board))
 }
 
-fn plays<R: Threads + Wait + Copy + Send + Sync, D: Device + Send>(
+fn runs_as_defined<R: Threads + Wait + Copy + Send + Sync, D: Device + Send>(
     rt: &R,
     lab: &mut Lab<D>,
     q: u64,
@@ -247,7 +247,7 @@ fn does<R: Threads + Wait + Copy + Send + Sync, D: Device + Send>(
     boards: &[u8],
 ) -> bool {
     match step {
-        Step::Round(q) => plays(rt, lab, q, boards),
+        Step::Round(q) => runs_as_defined(rt, lab, q, boards),
         Step::Run(d, pauses) => runs(rt, lab, d, pauses, boards),
         Step::Stop(b) => boards.is_empty() && stops(lab, BoardNo(b)),
         Step::Join(board, hub) => boards.is_empty() && joins(lab, board, hub),

@@ -5,7 +5,7 @@ use dev_core::{Device, Kind, Stock, What};
 use floor_run::NoGate;
 use lab_num::{BoardNo, Member, Micros, NoMemory};
 use lab_state::Lab;
-use log_merge::{LogItem, Member0};
+use log_merge::{BoardTime, LogItem};
 use std::alloc::Global;
 use std::fs;
 use std::rt::Files;
@@ -18,7 +18,7 @@ static NAMES: [&str; 4] = ["m0", "m1", "m2", "m3"];
 /// A board sends `A` in its third slot. At a thousand slots a microsecond that lies in the first.
 fn sent(board: u8) -> LogItem {
     LogItem::Slot(
-        Member0 {
+        BoardTime {
             at: Micros(0),
             board: BoardNo(board),
         },
@@ -72,7 +72,7 @@ fn logs_all(lines: &[LogItem]) -> bool {
 }
 
 /// A round of 100 microseconds, or a run of as many, logs a line of each board.
-fn plays<R: Threads + Wait + Copy + Send + Sync, D: Device + Send>(
+fn runs_as_defined<R: Threads + Wait + Copy + Send + Sync, D: Device + Send>(
     rt: &R,
     lab: &mut Lab<D>,
     workers: u8,
@@ -116,7 +116,7 @@ fn runs_on<R: Threads + Wait + Copy + Send + Sync, D: Device + Send>(
             return Ok(false);
         }
     }
-    if !plays(rt, &mut lab, workers, as_run) {
+    if !runs_as_defined(rt, &mut lab, workers, as_run) {
         return Ok(false);
     }
     Ok((0..4).all(|n| has_run(&lab, BoardNo(n))))

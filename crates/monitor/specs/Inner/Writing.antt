@@ -27,17 +27,17 @@ use Rattle.monitor.specs.Step.{Running}
 use Rattle.monitor.specs.Inner.Ruling.{IsCarried, IsOnward, IsRuled, KeepsOpen, Leaves}
 
 -- a monitor after what rounds have come to is printed
-abbrev pub played : Running → Rounded → Running
-played m rounded = record m {
+abbrev pub after_rounds : Running → Rounded → Running
+after_rounds m rounded = record m {
   state = record m.state { lab = rounded.lab; lines = open_lines m.state.lines rounded.items };
 }
 
--- Rounds were played that come to this, and what is printed of them under these names is written; or a part of it,
+-- Rounds were made that come to this, and what is printed of them under these names is written; or a part of it,
 -- where a write failed or memory ran out, and then the monitor has ended.
-pub record IsPlayed
+pub record IsRoundPrinted
     {A K : Type 0} (out : SinkGhosts K) (shown : Names) (all : Rounded) (result : Result A WriteFault)
     (old new : Running) (before after : K) : Type 0 where
-  pub becomes : OnOk result (new ≡ played old all)
+  pub becomes : OnOk result (new ≡ after_rounds old all)
   pub whole :
       OnOk result (out.written after ≡ grown (out.written before) (text shown old.state.lines all.items))
   pub part :

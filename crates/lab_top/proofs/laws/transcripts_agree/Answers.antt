@@ -5,5 +5,5 @@ use Rattle.lab_top.proofs.laws.transcripts_agree.Goals as goal
 
 pub returns : goal.returns
 returns c =
-    λ cut whole words held kept. ap (λ play. transcript_by play words held kept)
+    λ cut whole words held kept. ap (λ runner. transcript_by runner words held kept)
     (λ i lab d. c.turns_agree.ensures cut whole lab d i)

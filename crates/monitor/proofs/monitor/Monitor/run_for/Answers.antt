@@ -19,24 +19,24 @@ returns-in_err-admit_run-clause-made g c =
 pub returns-in-Ok-clause-made : goal.returns-in-Ok-clause-made
 returns-in-Ok-clause-made g c =
     let old = c.args.self.now in
-    run_made old c.play.new.self c.args.length.0 c.length_of-played.result.0
+    run_made old c.run_watched.new.self c.args.length.0 c.length_of-asked.result.0
     (rw (← c.self.view_is) c.in_ok-admit_run.ensures.ok.0) (rw (← c.self.view_is) c.in_ok-admit_run.ensures.ok.1)
-    c.length_of-played.ensures (c.runs_keep_names.ensures old.state.lab c.length_of-played.result.0)
-    (g.K.Sink.written c.args.out.now) (g.K.Sink.written c.play.new.out) c.requires.unspent c.in-Ok.ensures.becomes
+    c.length_of-asked.ensures (c.runs_keep_names.ensures old.state.lab c.length_of-asked.result.0)
+    (g.K.Sink.written c.args.out.now) (g.K.Sink.written c.run_watched.new.out) c.requires.unspent c.in-Ok.ensures.becomes
     c.in-Ok.ensures.whole
 
 pub returns-in-Err-clause-made : goal.returns-in-Err-clause-made
 returns-in-Err-clause-made g c =
     let old = c.args.self.now in
-    run_cut old c.play.new.self c.args.length.0 c.length_of-played.result.0
+    run_cut old c.run_watched.new.self c.args.length.0 c.length_of-asked.result.0
     (rw (← c.self.view_is) c.in_ok-admit_run.ensures.ok.0) (rw (← c.self.view_is) c.in_ok-admit_run.ensures.ok.1)
-    c.length_of-played.ensures (c.runs_keep_names.ensures old.state.lab c.length_of-played.result.0) c.in-Err.fault
-    (g.K.Sink.written c.args.out.now) (g.K.Sink.written c.play.new.out) c.requires.waits c.in-Err.ensures.ended
+    c.length_of-asked.ensures (c.runs_keep_names.ensures old.state.lab c.length_of-asked.result.0) c.in-Err.fault
+    (g.K.Sink.written c.args.out.now) (g.K.Sink.written c.run_watched.new.out) c.requires.waits c.in-Err.ensures.ended
     c.in-Err.ensures.part
 
-pub play-requires-clause-within : goal.play-requires-clause-within
-play-requires-clause-within g c κs within =
+pub run_watched-requires-clause-within : goal.run_watched-requires-clause-within
+run_watched-requires-clause-within g c κs within =
     let s = c.args.self.now.state in
     let short : length_of s c.args.length.0 ≤ c.args.length.0 = no_longer s c.args.length.0 in
     let now = ap (λ (r : Running). r.state.lab.now) c.self.view_is in
-    omega (arith, c.length_of-played.ensures, short, c.in_ok-admit_run.ensures.ok.1, now)
+    omega (arith, c.length_of-asked.ensures, short, c.in_ok-admit_run.ensures.ok.1, now)

@@ -1,7 +1,7 @@
 -- Each board has a plan, so none is named as having none.
 use Rattle.std.proofs.Common.{◌≡◌, ◌∙◌, Some, Err, ap}
 use Rattle.lab_state.specs.One.{first_without}
-use Rattle.lab_gen.proofs.generated.play.Goals as goal
+use Rattle.lab_gen.proofs.generated.run_generated.Goals as goal
 
 pub unreachable-requires : goal.unreachable-requires
 unreachable-requires g c =

@@ -12,7 +12,7 @@ use Rattle.lab_state.proofs.PendingLemmas.{waiting-is, pending-after}
 use Rattle.lab_state.proofs.RoundLemmas.{outlines-stepped, outlines-routes, numbers-routes, posts_differ, sent_in_round}
 use Rattle.lab_state.proofs.SentLemmas.{sent-after}
 use Rattle.lab_state.proofs.TimeLemmas.{at_end}
-use Rattle.lab_state.proofs.round.play.Goals as goal
+use Rattle.lab_state.proofs.round.round_on.Goals as goal
 
 pub hand_over_due-requires-clause-devices : goal.hand_over_due-requires-clause-devices
 hand_over_due-requires-clause-devices g c =
@@ -41,9 +41,9 @@ returns-clause-outlines g c =
     ∙ ap outlines c.in_ok-posts.ensures.boards
     ∙ outlines-stepped c.stretches_keep_plans.ensures c.args.source.now.end c.args.q c.args.boards.now
 
-pub returns-clause-played : goal.returns-clause-played
+pub returns-clause-round_made : goal.returns-clause-round_made
 unfolding boundary
-returns-clause-played g c =
+returns-clause-round_made g c =
     let from = c.args.source.now.end in
     let q = c.args.q in
     let posts = flat_map (posts_made (in_round from q)) c.args.boards.now in

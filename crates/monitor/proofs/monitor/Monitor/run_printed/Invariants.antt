@@ -4,7 +4,7 @@ use Rattle.lab_io.specs.Frame.{OnlyWrites}
 use Rattle.lab_state.specs.One.{HaveAllPlans}
 use Rattle.lab_state.specs.Run.{run}
 use Rattle.monitor.proofs.Rounds.{IsCome, left_of, onto}
-use Rattle.monitor.proofs.monitor.Monitor.play_rounds.Given as goal
+use Rattle.monitor.proofs.monitor.Monitor.run_printed.Given as goal
 
 abbrev pub invariant-rounds : goal.invariant-rounds
 invariant-rounds g l = record {

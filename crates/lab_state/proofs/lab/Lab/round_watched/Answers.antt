@@ -3,13 +3,13 @@ use Rattle.std.proofs.Common.{◌∙◌, sym, ap, refl, arith, rules}
 use Rattle.lab_state.specs.Lab.{Lab}
 use Rattle.lab_state.specs.One.{HaveAllPlans}
 use Rattle.lab_state.proofs.RoundLemmas.{given_back, plans_kept, round_is}
-use Rattle.lab_state.proofs.lab.Lab.round_by.Goals as goal
+use Rattle.lab_state.proofs.lab.Lab.round_watched.Goals as goal
 
 pub invariant_of-self : goal.invariant_of-self
 invariant_of-self g c h =
     let sound = c.self.invariant c.if-self.false in
     let made = rw c.deref_mut.ensures.value at c.in-Ok.ensures in
-    rw (given_back c.play.new.boards c.self.inside.boards.items c.self.inside.boards.len
+    rw (given_back c.round_on.new.boards c.self.inside.boards.items c.self.inside.boards.len
     (omega (arith, c.deref_mut.ensures.len)))
     (record {
       shape = rw made.outlines sound.shape;
@@ -39,8 +39,8 @@ returns g c =
       quantum = c.self.inside.quantum;
     } in
     let made = rw c.deref_mut.ensures.value at c.in-Ok.ensures in
-    let is = round_is before c.args.q made.played in
-    let after = given_back c.play.new.boards c.self.inside.boards.items c.self.inside.boards.len
+    let is = round_is before c.args.q made.round_made in
+    let after = given_back c.round_on.new.boards c.self.inside.boards.items c.self.inside.boards.len
     (omega (arith, c.deref_mut.ensures.len)) in
     let plans : HaveAllPlans before =
     rw (← c.self.view_is) at (c.requires.plans (sym (ap (λ s. s.spent) c.self.view_is) ∙ c.if-self.false)) in
@@ -48,7 +48,7 @@ returns g c =
       lab = rw (← c.self.view_is, is, after, made.end, c.if-self.false) refl;
       lines = rw (← c.self.view_is, is) refl;
       paused = rw (← c.self.view_is, is) refl;
-      plans = rw after (plans_kept c.self.inside.boards.items c.play.new.boards made.outlines ∙ plans);
+      plans = rw after (plans_kept c.self.inside.boards.items c.round_on.new.boards made.outlines ∙ plans);
       err = search rules;
       spent = search rules;
     }

@@ -8,7 +8,7 @@ use Rattle.lab_state.proofs.RunLemmas.{round_time}
 use Rattle.monitor.specs.Step.{Running}
 use Rattle.monitor.proofs.Rounds.{becomes_all, come_more, come_none, come_on, come_part, lab_after, left_of}
 use Rattle.monitor.proofs.Rounds.{lines_after, none_after, none_of, one_round, same_but, whole_written}
-use Rattle.monitor.proofs.monitor.Monitor.play_rounds.Goals as goal
+use Rattle.monitor.proofs.monitor.Monitor.run_printed.Goals as goal
 
 pub rounds-init : goal.rounds-init
 rounds-init g c =
@@ -31,11 +31,11 @@ rounds-init g c =
 pub rounds-preserved : goal.rounds-preserved
 rounds-preserved g c =
     let m : Running = c.rounds.self in
-    let new : Running = c.play_round.new.self in
+    let new : Running = c.round_printed.new.self in
     let q = c.min-q.result in
     let longest = c.longest_round-longest.result in
     let made = round m.state.lab q in
-    let is = c.in_ok-paused.ensures.played in
+    let is = c.in_ok-paused.ensures.printed in
     let later = left_of longest (c.rounds.left - q) made.lab made.paused in
     let time : new.state.lab.now ≡ m.state.lab.now + q =
     ap (λ (r : Running). r.state.lab.now) is.becomes ∙ round_time m.state.lab q in
@@ -51,7 +51,7 @@ rounds-preserved g c =
       come =
           come_on longest (c.rounds.left - q) m new made _ is.becomes c.in_ok-paused.ensures.paused
           (come_more c.prints_join.ensures.text c.prints_join.ensures.open made later c.rounds.invariant.come split
-          (g.K.Sink.written c.play_round.new.out) is.whole);
+          (g.K.Sink.written c.round_printed.new.out) is.whole);
       writes = writes_on c.rounds.invariant.writes (writes_as (λ none. absurd none) is.writes);
     }
 
@@ -62,7 +62,7 @@ returns-in_err-paused g c =
     let q = c.min-q.result in
     let longest = c.longest_round-longest.result in
     let made = round m.state.lab q in
-    let is = c.in_err-paused.ensures.played in
+    let is = c.in_err-paused.ensures.printed in
     let split =
     one_round longest c.rounds.left m.state.lab c.rounds.paused c.longest_round-longest.ensures.some c.rounds-test.true
     (c.if-is_none.ensures {u = tt}) c.min-q.ensures in
@@ -73,7 +73,7 @@ returns-in_err-paused g c =
       part =
           come_part c.prints_join.ensures.text c.prints_join.ensures.open made
           (left_of longest (c.rounds.left - q) made.lab made.paused) c.rounds.invariant.come split
-          (g.K.Sink.written c.play_round.new.out) is.part;
+          (g.K.Sink.written c.round_printed.new.out) is.part;
       ended = is.ended;
       writes = writes_on c.rounds.invariant.writes (writes_as (λ same. cc same) is.writes);
     })
