@@ -7,8 +7,8 @@ ghost use Rattle.monitor.specs.State.{State};
 
 /// Two runs one after another print together what one run of both lengths prints, and leave the same
 /// laboratory and the same open lines, where the first is a whole number of quanta long and no
-/// finisher ends it. Where the first ends within a quantum, there is one boundary more, and what was
-/// sent by then arrives earlier.
+/// finisher ends it. Where the first ends within a quantum, there is one boundary more, and what is due
+/// by then is handed over there, and not at the end of the quantum.
 pub fn runs_of_a_script_join()
     ensures { (s : State) (d e : ℕ) (first second both : Done) →
         0 < s.lab.quantum → d % s.lab.quantum ≡ 0 → (run s.lab d).paused ≡ None →
