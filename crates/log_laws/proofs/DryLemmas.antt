@@ -140,7 +140,8 @@ connected_of s (Some hub) m = same s
 module _ (runner : Runner) (nothing : (lab : Lab) → runner lab 0 ≡ still lab) (held : Held) where
   run_of_none : (s : State) (length : ℕ) → s.dry ≡ true → RestsBy s (run_for runner s length)
   run_of_none s length dry =
-      let stays : Rests s (has_run s (runner s.lab (length_of s length))).state = (rw (dry, nothing s.lab) refl, refl) in
+      let stays : Rests s (has_run s (runner s.lab (length_of s length))).state =
+      (rw (dry, nothing s.lab) refl, refl) in
       search (rests_then, stays)
 
   work_rests : (s : State) (place : LinePlace) (line : Command) → s.dry ≡ true →

@@ -179,7 +179,8 @@ module _ {F : Type 0} {files : Ghosts F} where
   pub line_refused :
       (runner : Runner) (line : Result Command LineCause) (fault : LineFault) (old : Running) (before : F) →
       IsReadAs line (Err fault) →
-      IsDone files (λ held place. done_by runner held old.state place line) (Err (line_stop fault)) old old before before
+      IsDone files (λ held place. done_by runner held old.state place line)
+      (Err (line_stop fault)) old old before before
   line_refused runner line line_fault.Unknown old before is = rw is (done_refused Unknown old before)
   line_refused runner line line_fault.Arguments old before is = rw is (done_refused Arguments old before)
   line_refused runner line line_fault.Time old before is = rw is (done_refused Time old before)

@@ -179,7 +179,8 @@ module _ (AreFlows : script.State → script.State → Type 0) where
         done_apart : (one two : Result Done ScriptCause) → AreApartBy one two → Or (unread place one) (unread at two)
         done_apart one two are = or _ _ (unread_apart one two are)
 
-        work_apart : (line : Command) → Or (does held place (work runner s line)) (does held at (work runner other line))
+        work_apart : (line : Command) → Or (does held place (work runner s line))
+            (does held at (work runner other line))
         work_apart (command.LoadPlatform path) = platforms path
         work_apart (command.LoadElf path) =
             or _ _ (loads_apart held path (equipped s) (λ on bytes. load_read s place on (elf_image bytes))

@@ -45,7 +45,8 @@ room_by : (room : Bool) (one two : script.State) → (if room then done one else
 room_by true one two is = refl
 room_by false one two is = absurd (cc)
 
-module _ (facts : PlacesAside) (runner : Runner) (held kept : Held) (s : State) (g : script.State) (file : List ℕ) (n : ℕ)
+module _ (facts : PlacesAside) (runner : Runner) (held kept : Held) (s : State) (g : script.State) (file : List ℕ)
+    (n : ℕ)
     (line : List ℕ) (flow opened : script.State) (next : next_of s.flow ≡ Gives file n line flow)
     (few : g.kept.taken ≤ 100000) (same : MeansSame opened g) where
   abbrev at : LinePlace

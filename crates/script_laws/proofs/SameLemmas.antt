@@ -182,7 +182,8 @@ AllOne n m runner held =
     g.kept.taken ≤ 100000 → 100000 < n + s.flow.kept.taken → 100000 < m + g.kept.taken →
     AreOneWithinLimits (from n runner held kept s) (from m runner held kept (record s { flow = g }))
 
-step_one : (n m : ℕ) (runner : Runner) (held : Held) → AllOne n m runner held → (kept : Held) (s : State) (g : script.State) →
+step_one : (n m : ℕ) (runner : Runner) (held : Held) → AllOne n m runner held → (kept : Held) (s : State)
+    (g : script.State) →
     100000 < suc n + s.flow.kept.taken → 100000 < suc m + g.kept.taken → (one two : Did) →
     DoAlike s.flow.kept.taken g.kept.taken one two →
     AreOneWithinLimits (onward (from n runner held) kept s one)

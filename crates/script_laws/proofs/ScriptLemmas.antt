@@ -41,7 +41,8 @@ OnlyRead runner =
     AgreeOn (names_read (begun runner held kept script setting (Readable text)).reads) held other →
     begun runner other kept script setting (Readable text) ≡ begun runner held kept script setting (Readable text)
 
-module _ (facts : LinesBehind) (starts : BegunBehind) (runner : Runner) (only : OnlyRead runner) (held other : Held) where
+module _ (facts : LinesBehind) (starts : BegunBehind) (runner : Runner) (only : OnlyRead runner)
+    (held other : Held) where
   run_begins : (script text more : List ℕ) (setting : Setting) (kept : Held) (first second : Content) →
       first ≡ Readable text → second ≡ Readable (text ++ more) → EndsLine text → ClosesMacros text →
       AgreeOn (names_read (map (read_later 0) (begun runner held kept script setting first).reads)) held other →
@@ -70,7 +71,8 @@ module _ (facts : LinesBehind) (starts : BegunBehind) (runner : Runner) (only : 
       (transcript_by runner words other kept)
   transcript_begins words script text more setting kept asked there longer is also whole closed same =
       let run : transcript_by runner words held kept ≡ run_of runner held kept script setting = rw asked refl in
-      let longer_run : transcript_by runner words other kept ≡ run_of runner other kept script setting = rw asked refl in
+      let longer_run : transcript_by runner words other kept ≡ run_of runner other kept script setting =
+      rw asked refl in
       rw (run, longer_run)
       (run_begins script text more setting kept (content_of script (get held script))
       (content_of script (get other script)) (ap (content_of script) there ∙ is)

@@ -22,7 +22,8 @@ returns-in-Ok-clause-made g c =
     run_made old c.run_watched.new.self c.args.length.0 c.length_of-asked.result.0
     (rw (← c.self.view_is) c.in_ok-admit_run.ensures.ok.0) (rw (← c.self.view_is) c.in_ok-admit_run.ensures.ok.1)
     c.length_of-asked.ensures (c.runs_keep_names.ensures old.state.lab c.length_of-asked.result.0)
-    (g.K.Sink.written c.args.out.now) (g.K.Sink.written c.run_watched.new.out) c.requires.unspent c.in-Ok.ensures.becomes
+    (g.K.Sink.written c.args.out.now)
+    (g.K.Sink.written c.run_watched.new.out) c.requires.unspent c.in-Ok.ensures.becomes
     c.in-Ok.ensures.whole
 
 pub returns-in-Err-clause-made : goal.returns-in-Err-clause-made
