@@ -4,6 +4,7 @@ import io
 from typing import List
 
 from labdev import crates
+from labtools.common.program import TOP
 from tests.commands import Room
 
 LIST = """# NAME: the libraries that it uses.
@@ -26,10 +27,17 @@ SOURCES = {
 HEADING = ["| Layer | Crate | What it is | Uses |", "|---|---|---|---|"]
 
 
-# What is printed: the program's crates, a longest way down, and tables of the program's crates and of the others.
+# What is printed: the program's crates, a longest way down, what stands on crates or below them, and tables of the
+# program's crates and of the others.
 PRINTED = {
     "": [" 3  lab_cli", " 2  middle", " 1  low"],
     "--chain": ["lab_cli > middle > low"],
+    "--above low": ["low", "middle", "other", "lab_cli", "middle_laws"],
+    "--above middle": ["middle", "lab_cli", "middle_laws"],
+    "--above other middle_laws": ["other", "middle_laws"],
+    "--below lab_cli": ["low", "middle", "lab_cli"],
+    "--below other middle_laws": ["low", "middle", "other", "middle_laws"],
+    "--below low": ["low"],
     "--heads": [
         *HEADING,
         "| 3 | `lab_cli` | The program. | `low`, `middle` |",
@@ -56,6 +64,17 @@ class Crates(Room):
         for words, lines in PRINTED.items():
             with self.subTest(words=words):
                 self.assertEqual(self.printed(*words.split()), lines)
+
+    def test_wrong_arguments_are_refused(self) -> None:
+        for words, text in {
+            ("--above",): "[--chain | --heads | --others | --above NAME .. | --below NAME ..]",
+            ("--below", "lab_num", "none"): "crates.txt has no crate none",
+            ("--heads", "lab_num"): "[--chain | --heads | --others | --above NAME .. | --below NAME ..]",
+        }.items():
+            with self.subTest(words=words):
+                ended = self.ran(TOP / "tools/crates", *words)
+                self.assertEqual((ended.returncode, ended.stdout), (2, ""))
+                self.assertIn(text, ended.stderr)
 
     def test_a_crate_that_does_not_say_what_it_is_ends_the_script(self) -> None:
         for source in "pub mod low;\n", "//!\n//! Late.\n", "//! No sentence\n":
