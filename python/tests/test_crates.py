@@ -4,7 +4,6 @@ import io
 from typing import List
 
 from labdev import crates
-from labtools.common.program import TOP
 from tests.commands import Room
 
 LIST = """# NAME: the libraries that it uses.
@@ -64,17 +63,6 @@ class Crates(Room):
         for words, lines in PRINTED.items():
             with self.subTest(words=words):
                 self.assertEqual(self.printed(*words.split()), lines)
-
-    def test_wrong_arguments_are_refused(self) -> None:
-        for words, text in {
-            ("--above",): "[--chain | --heads | --others | --above NAME .. | --below NAME ..]",
-            ("--below", "lab_num", "none"): "crates.txt has no crate none",
-            ("--heads", "lab_num"): "[--chain | --heads | --others | --above NAME .. | --below NAME ..]",
-        }.items():
-            with self.subTest(words=words):
-                ended = self.ran(TOP / "tools/crates", *words)
-                self.assertEqual((ended.returncode, ended.stdout), (2, ""))
-                self.assertIn(text, ended.stderr)
 
     def test_a_crate_that_does_not_say_what_it_is_ends_the_script(self) -> None:
         for source in "pub mod low;\n", "//!\n//! Late.\n", "//! No sentence\n":
