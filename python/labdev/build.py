@@ -31,7 +31,7 @@ from labdev import trials, unproved
 from labdev.crates import PROGRAM as CRATE_OF_PROGRAM, below, uses_of
 from labdev.kit_runs import FOLDER, Failed, Run, last_of, tell, time_since
 from labdev.released import sum_of_sources
-from labtools.common.program import TOP, end_unless, number_of
+from labtools.common.program import TOP, counted, end_unless, number_of
 
 PROGRAM = f"{FOLDER}/out/lab_cli"
 PARTS = "src", "specs", "proofs"
@@ -209,7 +209,8 @@ def build(lanes: int, log: IO[str]) -> None:
     before = sum_of_sources()
     plan = Plan(lanes)
     minutes = f"{plan.whole() / 60:.0f} minutes" if plan.whole() >= 90 else "a minute"
-    tell(f"proves and builds the program, {lanes} crates at a time, in about {minutes}; later runs start at once")
+    crates = counted(lanes, "crate", "crates")
+    tell(f"proves and builds the program, {crates} at a time, in about {minutes}; later runs start at once")
     prove(lanes, plan, log, start)
     build_program(log)
     keep_sum(before)
