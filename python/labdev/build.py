@@ -1,12 +1,19 @@
 """Proves the crates of the program side by side, and builds the program.
 
     tools/build [LANES]
+    tools/build --unproved [--out FILE]    builds it without any proof, to try a change before it is proved
 
 `rt all` proves each crate as soon as the crates that it uses are proved, LANES at a time: by default as many as there
 are processors, and fewer if memory is short; at most 999. A crate that was proved before and has not changed takes
-seconds. It first estimates how long it will take, and then prints how much is done, counted in lines of the crates that
-are new or have changed. It ends with 0 if the program is built, and else with 1; with 2 if it is
-called wrongly; and with 130 if it was interrupted.
+seconds. The tool first prints an estimate of the time, and then how much is done, counted in lines of the crates that
+are new or have changed.
+
+With --unproved, `rt try` compiles the program to FILE, by default out/lab-unproved, in some two minutes of one
+processor. Nothing of that program is proved. It is slow, because it checks each access and each sum; LAB=FILE
+cases/check runs the cases with it. FILE may not lie in bin/ or in crates/lab_cli/out/, where proved programs are.
+
+The tool ends with 0 if the program is built, and with 1 if it is not; with 2 if it was called with wrong arguments; and
+with 130 if it was interrupted.
 """
 import hashlib
 import heapq
@@ -16,17 +23,16 @@ import pathlib
 import re
 import signal
 import subprocess
-import sys
 import tempfile
 import time
-from typing import IO, Dict, Iterable, Iterator, List, Optional
+from typing import IO, Callable, Dict, Iterable, List, Optional
 
-from labdev import trials
+from labdev import trials, unproved
 from labdev.crates import PROGRAM as CRATE_OF_PROGRAM, below, uses_of
+from labdev.kit_runs import FOLDER, Failed, Run, last_of, tell, time_since
 from labdev.released import sum_of_sources
-from labtools.common.program import TOP, end_unless, number_of
+from labtools.common.program import TOP, counted, end_unless, number_of
 
-FOLDER = f"{TOP}/crates/lab_cli"
 PROGRAM = f"{FOLDER}/out/lab_cli"
 PARTS = "src", "specs", "proofs"
 # The sums of the crates as they were proved last.
@@ -36,22 +42,9 @@ PROVED = pathlib.Path(f"{TOP}/out/build.proved")
 SECONDS_OF_A_LINE = 0.055
 SECONDS_OF_A_CRATE = 10
 MOST_LANES = 999
-# What a check needs at most, mostly, and how many lines of a failed one are shown.
+USAGE = "[LANES] | --unproved [--out FILE]"
+# What a check needs at most, mostly.
 MEMORY_OF_A_CHECK = 3 * 2**30
-LINES_SHOWN = 20
-
-
-class Failed(Exception):
-    """Crates that are not proved, or a program that is not built: what is to be told of it."""
-
-
-def tell(text: object) -> None:
-    print(f"lab: {text}", file=sys.stderr, flush=True)
-
-
-def time_since(start: float) -> str:
-    minutes, seconds = divmod(int(time.monotonic() - start), 60)
-    return f"{minutes} min {seconds:02} s"
 
 
 def free_memory() -> Optional[int]:
@@ -137,40 +130,6 @@ def proved_before() -> Dict[str, str]:
         return {}
 
 
-class Run:
-    """A run of `rt` in the program's crate, whose text is kept in a file too. It is ended with this program."""
-
-    def __init__(self, words: List[str], log: IO[str]) -> None:
-        self.log = log
-        self.process = trials.begin(["rt", *words], FOLDER)
-
-    def __enter__(self) -> "Run":
-        return self
-
-    def __exit__(self, *_: object) -> None:
-        try:
-            os.killpg(self.process.pid, signal.SIGTERM)
-            self.process.wait(timeout=10)
-        except ProcessLookupError:
-            pass
-        except subprocess.TimeoutExpired:
-            os.killpg(self.process.pid, signal.SIGKILL)
-
-    def lines(self) -> Iterator[str]:
-        """Yields the lines that the run prints, as it prints them."""
-        assert self.process.stdout
-        for line in self.process.stdout:
-            self.log.write(line)
-            yield line.rstrip()
-        self.process.wait()
-
-
-def last_of(lines: List[str]) -> str:
-    """Returns the last lines of a text, without those that only count what was read of the kit."""
-    telling = [line for line in lines if not line.startswith("statements ")]
-    return "\n".join(f"    {line}" for line in telling[-LINES_SHOWN:])
-
-
 def cause_of(status: int) -> str:
     """Returns what is to be said of a check that was killed."""
     is_killed = status in (-signal.SIGKILL, 128 + signal.SIGKILL)
@@ -250,7 +209,8 @@ def build(lanes: int, log: IO[str]) -> None:
     before = sum_of_sources()
     plan = Plan(lanes)
     minutes = f"{plan.whole() / 60:.0f} minutes" if plan.whole() >= 90 else "a minute"
-    tell(f"proves and builds the program, {lanes} crates at a time, in about {minutes}; later runs start at once")
+    crates = counted(lanes, "crate", "crates")
+    tell(f"proves and builds the program, {crates} at a time, in about {minutes}; later runs start at once")
     prove(lanes, plan, log, start)
     build_program(log)
     keep_sum(before)
@@ -258,19 +218,28 @@ def build(lanes: int, log: IO[str]) -> None:
 
 
 def main(words: List[str]) -> int:
-    end_unless(len(words) < 2, "[LANES]")
-    lanes = number_of(words[0], "[LANES]", MOST_LANES) if words else lanes_for_this_machine()
     trials.unwind_at_ends()
+    if words[:1] == ["--unproved"]:
+        end_unless(len(words) == 1 or len(words) == 3 and words[1] == "--out", USAGE)
+        place = unproved.place_of(words[2]) if words[1:] else unproved.STANDARD
+        return ended(lambda log: unproved.build(place, log), "nothing is built")
+    end_unless(len(words) < 2, USAGE)
+    lanes = number_of(words[0], USAGE, MOST_LANES) if words else lanes_for_this_machine()
+    return ended(lambda log: build(lanes, log), "what is proved is kept")
+
+
+def ended(work: Callable[[IO[str]], None], left: str) -> int:
+    """Returns the status of a build, whose log it keeps where the build fails. `left` says what an interrupt leaves."""
     status = 0
     with tempfile.NamedTemporaryFile("w", prefix="lab-build-", suffix=".log", delete=False) as log:
         try:
-            build(lanes, log)
+            work(log)
         except (Failed, OSError, subprocess.CalledProcessError) as fault:
             tell(fault)
-            tell(f"all that was printed is in {log.name}")
+            tell(f"the whole output is in {log.name}")
             return 1
         except KeyboardInterrupt:
-            tell("the build was interrupted; what is proved is kept")
+            tell(f"the build was interrupted; {left}")
             status = 130
     os.remove(log.name)
     return status

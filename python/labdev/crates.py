@@ -1,13 +1,17 @@
 """Prints the crates of crates.txt by layer: a crate is one layer above the highest that it uses.
 
-    tools/crates            the crates of the program, the highest layer first
-    tools/crates --chain    a longest chain down from lab_cli, which no build can shorten
-    tools/crates --heads    the crates of the program as a table: what each is, and which crates it uses
-    tools/crates --others   the same table of the crates beside the program: laws, tests, and other programs
+    tools/crates                   the crates of the program, the highest layer first
+    tools/crates --chain           a longest chain down from lab_cli, which no build can shorten
+    tools/crates --above NAME ..   these crates and all that use them, directly or not: if these change, all of them
+                                   are proved again
+    tools/crates --below NAME ..   these crates and all that they use, directly or not
+    tools/crates --heads           the crates of the program as a table: what each is, and which crates it uses
+    tools/crates --others          the same table of the crates beside the program: laws, tests, and other programs
 
-A table begins with the highest layer, and describes a crate by the first sentence of the comment at the head of its
-src/lib.rt or src/main.rt. Libraries of the kit are left out. It ends with 0; with 1 if a crate has no such comment or
-the output cannot be written; and with 2 if its words are wrong.
+--above and --below print one name a line, each crate after those that it uses. A table begins with the highest layer,
+and describes a crate by the first sentence of the comment at the head of its src/lib.rt or src/main.rt. Libraries of
+the kit are left out. The tool ends with 0; with 1 if a crate has no such comment or the output cannot be written; and
+with 2 if it was called with wrong arguments.
 """
 import functools
 import itertools
@@ -20,6 +24,7 @@ from labtools.common.program import TOP, end_unless, end_wrong
 
 PROGRAM = "lab_cli"
 COLUMNS = 110
+USAGE = "[--chain | --heads | --others | --above NAME .. | --below NAME ..]"
 Uses = Dict[str, List[str]]
 
 
@@ -40,6 +45,17 @@ def below(uses: Uses, crate: str) -> Set[str]:
         left += [] if one in found else uses[one]
         found.add(one)
     return found
+
+
+def above(uses: Uses, crate: str) -> Set[str]:
+    """Returns a crate and all that stand on it."""
+    return {it for it in uses if crate in below(uses, it)}
+
+
+def from_below(uses: Uses, among: Set[str]) -> List[str]:
+    """Returns these crates, each after those that it uses."""
+    heights = {crate: len(chain) for crate, chain in chains_of(uses).items()}
+    return sorted(among, key=lambda it: (heights[it], it))
 
 
 def chains_of(uses: Uses) -> Uses:
@@ -103,11 +119,17 @@ def printed(words: List[str], uses: Uses, crates: pathlib.Path) -> List[str]:
         return table(uses, program, lambda it: head_of(crates / it))
     if words == ["--others"]:
         return table(uses, set(uses) - program, lambda it: head_of(crates / it))
+    if words:
+        reached = above if words[0] == "--above" else below
+        return from_below(uses, {it for name in words[1:] for it in reached(uses, name)})
     return layers(uses)
 
 
 def main(words: List[str]) -> None:
-    is_well = words in ([], ["--chain"], ["--heads"], ["--others"])
-    end_unless(is_well, "[--chain | --heads | --others]")
+    takes_names = len(words) > 1 and words[0] in ("--above", "--below")
+    end_unless(takes_names or words in ([], ["--chain"], ["--heads"], ["--others"]), USAGE)
     uses = uses_of((TOP / "crates.txt").read_text(encoding="utf-8"))
+    for name in words[1:]:
+        if name not in uses:
+            end_wrong(f"crates.txt has no crate {name}")
     print("\n".join(printed(words, uses, TOP / "crates")))

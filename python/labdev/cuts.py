@@ -18,7 +18,7 @@ twice. To both a byte is added, and each count of a list becomes 2^64 - 1. Each 
 laboratory that is saved again as exactly those bytes, and no memory may be taken for a count that the bytes cannot
 hold. A snapshot of 64 MiB is saved and loaded; one with a byte more is refused as S19, and so is a file of that size.
 
-It prints only what is wrong. It ends with 0; with 1 if something was wrong; and with 2 if it is given words.
+It prints only what is wrong. It ends with 0; with 1 if something was wrong; and with 2 if it is given arguments.
 """
 import concurrent.futures
 import contextlib
@@ -167,14 +167,14 @@ class Cuts:
         """Yields what is wrong where it is cut behind this item. `front` is what was printed before."""
         command = self.items[at][0][0]
         if self.room.run(["Load @x", "Save @y"])[1] != 0 or self.room.read("y") != kept:
-            yield f"{self.name}: what is loaded is not saved as it was, after: {command}"
+            yield f"{self.name}: a loaded laboratory is saved as other bytes, after: {command}"
         rest = [*lines_in(it for it in self.items[: at + 1] if not it[1]), "Load @x"]
         rest += [f"mach set {selected}"] if selected else []
         rest += lines_in(self.items[at + 1 :])
         for workers in "1", "2", "8":
             printed, status = self.room.run(rest, "--workers", workers)
             if (front + printed, status) != self.whole:
-                yield f"{self.name}: goes on otherwise with {workers} workers, after: {command}"
+                yield f"{self.name}: continues differently with {workers} workers, after: {command}"
 
 
 def wrong_cuts(program: str, name: str, text: str, files: Files) -> List[str]:
@@ -191,7 +191,7 @@ def try_missing(room: Room) -> Iterator[str]:
         room.run([*lines[: at + 1], "Save @x"])
         lacks.append(cut_labs.missing(room.read("x")))
     for lack in sorted(set.intersection(*lacks)):
-        yield f"the laboratory of all shows at no time {lack}"
+        yield f"the laboratory of sixteen boards never shows {lack}"
 
 
 def sample(room: Room) -> bytes:
@@ -249,7 +249,7 @@ def try_damaged(rooms: "queue.Queue[Room]", jobs: List[Damaged]) -> List[str]:
     try:
         answers = room.take_each([data for _, data, _ in jobs])
         wrong = [wrong_with(room, at, job, answer) for at, (job, answer) in enumerate(zip(jobs, answers))]
-        return [*filter(None, wrong), *["not all damaged snapshots were taken"] * (len(answers) != len(jobs))]
+        return [*filter(None, wrong), *["not every damaged snapshot was tried"] * (len(answers) != len(jobs))]
     finally:
         rooms.put(room)
 
@@ -298,14 +298,14 @@ def try_largest(room: Room) -> Iterator[str]:
     for count in {4096, pages % 4096}:
         room.write(f"pages{count}", b"\1" * (count * snapshot.PAGE))
     if room.run(filled(pages, left + 22)) != (b"", 0) or len(room.read("x")) != MOST:
-        yield "a snapshot of 64 MiB is not kept"
+        yield "a snapshot of 64 MiB is not saved"
     elif room.run(["Load @x", "Save @y"]) != (b"", 0) or room.read("x") != room.read("y"):
-        yield "a snapshot of 64 MiB is not taken back"
+        yield "a snapshot of 64 MiB is not loaded"
     larger = filled(pages, left + 23)
     if room.run(larger) != (f"error: s.resc:{len(larger)}: S19 size\n".encode(), 3):
-        yield "a snapshot of more than 64 MiB is kept"
+        yield "a snapshot of more than 64 MiB is saved"
     if room.read("x") != room.read("y"):
-        yield "a refused Save changes the file of its name"
+        yield "a refused Save changes the file that it names"
 
 
 def all_wrong(program: str) -> Iterator[str]:

@@ -7,7 +7,7 @@ closed, full or gone, runs that are killed, calls that a signal interrupts. Prin
 Under a limit a run must end with the demo's log and status, or with 1 and a beginning of that log: never by a signal,
 late, or with other bytes. The lowest limit is the one at which the program, run without words, still prints its usage:
 below it the system's loader finds no memory for it. Interrupted calls are tried if `strace` is installed. With LAB set,
-that program runs. It ends with 0; with 1 if something was wrong; and with 2 if its words are wrong.
+that program runs. It ends with 0; with 1 if something was wrong; and with 2 if its arguments are wrong.
 """
 import os
 import pathlib
@@ -56,7 +56,7 @@ class Edges:
         """Yields a line where a run has ended otherwise."""
         if (answer.status, answer.printed) != (status, printed):
             end = f"{answer.status} and {answer.printed[-80:]!r}"
-            yield f"{what}: ended with {end}, and not with {status} and {printed[-80:]!r}"
+            yield f"{what}: ended with {end} instead of {status} and {printed[-80:]!r}"
 
     def try_files(self) -> Iterator[str]:
         """Files that are none, that cannot be read, that say another length than they have, or that do not end."""

@@ -16,7 +16,7 @@ printed is looked at: a changed time may have made it longer.
 Each trial begins with the files of its laboratory and no others: what a run has kept is removed. Laboratories of more
 than 100,000 bytes are passed over. With COUNT only faults are printed, each with a folder in which to try it; without
 COUNT also how much was tried. As many trials run at a time as there are processors; `taskset` gives it fewer. It ends
-with 0; with 1 if there was a fault; and with 2 if its words are wrong: COUNT is a number from 1 to as many as there
+with 0; with 1 if there was a fault; and with 2 if its arguments are wrong: COUNT is a number from 1 to as many as there
 are.
 """
 import bisect
@@ -300,7 +300,7 @@ def main(words: List[str]) -> int:
     numbers: Sequence[int] = range(damages.count())
     if count is not None:
         if count > len(numbers):
-            end_wrong(f"there are {len(numbers)} such files, and not {count}")
+            end_wrong(f"there are only {len(numbers)} such files, not {count}")
         numbers = sorted(random.Random(seed).sample(numbers, count))
     trials.unwind_at_ends()
     with Room("lab-mangle-") as room:

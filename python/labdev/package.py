@@ -8,7 +8,7 @@ and a file SUMS with the version, the sum of the sources, the sum of the program
 archive and the Debian package also contain the manual page lab(1), completion for bash, the changelog and the demos.
 The program is bin/lab or the one that was built here, whichever was built from the present sources; nothing is built.
 The same files always give the same bytes. If dpkg-deb is not installed, the Debian package is left out, and a line says
-so. It ends with 0; with 1 if no program was built from the present sources; and with 2 if its words are wrong.
+so. It ends with 0; with 1 if no program was built from the present sources; and with 2 if its arguments are wrong.
 
 The archive is laid out like the repository, with ./lab, tools/, docs/ and demo/. The Debian package puts that folder in
 /usr/lib/lab, its commands in /usr/bin as lab, lab-expect and so on, and documents and demos in /usr/share/doc/lab. Each

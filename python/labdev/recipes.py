@@ -29,7 +29,7 @@ import tempfile
 from typing import Dict, Iterator, List, Optional, Tuple
 
 from labdev.pythons import with_pyelftools
-from labtools.common.program import TOP, end_wrong, path_of_program
+from labtools.common.program import TOP, counted, end_wrong, path_of_program
 
 MARK = re.compile(r"<!-- (lines of|file|run|do)\b ?(.*?) ?-->")
 WITH = re.compile(r"(.*?) ?with (\S+)$")
@@ -74,7 +74,7 @@ def block_after(lines: List[str]) -> str:
     """Returns the block after a comment: a table, or indented lines without their indentation."""
     found = table_after(lines) or indented_after(lines)
     if not found:
-        raise Wrong("no block stands after the comment")
+        raise Wrong("no block follows the comment")
     return "".join(f"{line}\n" for line in found)
 
 
@@ -90,7 +90,7 @@ def run(command: str, room: str) -> Tuple[int, str, str]:
 def try_lines(path: str, block: str) -> None:
     with open(f"{TOP}/{path}", encoding="utf-8") as file:
         if f"\n{block}" not in f"\n{file.read()}":
-            raise Wrong(f"these lines do not stand in {path}")
+            raise Wrong(f"{path} does not have these lines")
 
 
 def make_file(path: str, block: str, room: str) -> None:
@@ -104,7 +104,8 @@ def try_run(words: str, block: str, room: str) -> None:
     command, wanted = (given[1], int(given[2])) if given else (words, 0)
     status, printed, told = run(command, room)
     if printed != block or status != wanted:
-        raise Wrong(f"`{command}` ended with {status}, and not with {wanted}, and printed\n{printed}{told}")
+        ended = "" if status == wanted else f"ended with {status} instead of {wanted} and "
+        raise Wrong(f"`{command}` {ended}printed\n{printed}{told}")
 
 
 def do_lines(block: str, room: str) -> None:
@@ -177,7 +178,8 @@ def is_so(document: str, text: str, program: str) -> bool:
                 print(f"{os.path.relpath(document, TOP)}:{line}: {fault}")
                 is_well = False
     for lacks in lacking.keys() - {None}:
-        print(f"passed over: {lacking[lacks]} blocks of {os.path.relpath(document, TOP)}, without {lacks}")
+        blocks = counted(lacking[lacks], "block", "blocks")
+        print(f"passed over: {blocks} of {os.path.relpath(document, TOP)}, without {lacks}")
     return is_well
 
 

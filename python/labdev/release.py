@@ -12,7 +12,7 @@ the first once where the sources of the program have changed, before they land.
 puts the same changes into packaging/changelog, and changes the version in README.md and docs/PROJECT.md. It refuses a
 version that is not higher than the one in VERSION, and an empty part Unreleased; then no file changes.
 
-It ends with 0, with 1 where it refuses or where the programs differ, saying how, and with 2 where its words are wrong.
+It ends with 0; with 1 if it refuses or if the programs differ, saying how; and with 2 if its arguments are wrong.
 """
 import functools
 import os
@@ -52,7 +52,7 @@ def built_from(sources: str) -> bytes:
         raise Refused(f"{told(BUILT)} was built again after its sum was kept: tools/build proves and builds it")
     program = BUILT.read_bytes()
     if MARK not in program:
-        raise Refused(f"{told(BUILT)} does not say by which logic it was proved, as what the kit builds does")
+        raise Refused(f"{told(BUILT)} does not name the logic by which it was proved, as programs of the kit do")
     return program
 
 
@@ -114,7 +114,7 @@ def work_of(words: List[str]) -> Callable[[], None]:
     if words == ["--check"]:
         return compare
     end_unless(len(words) == 2 and words[0] == "--version", USAGE)
-    end_unless(is_version(words[1]), USAGE, f"{words[1]} is no version of three numbers, as 1.2.0")
+    end_unless(is_version(words[1]), USAGE, f"{words[1]} is not a version of three numbers, such as 1.2.0")
     return functools.partial(give_version, words[1])
 
 

@@ -74,7 +74,7 @@ def price(program: str, load: Load) -> float:
     counts = [counted(program, load.run(length)) for length in load.lengths]
     first, last = counts[0] if len(counts) > 1 else (0, 0), counts[-1]
     if last[1] <= first[1]:
-        raise Failed("the longer run has no more work than the other one")
+        raise Failed("the longer run did no more work than the shorter one")
     return (last[0] - first[0]) / (last[1] - first[1])
 
 
@@ -152,7 +152,7 @@ def main(words: List[str]) -> None:
         print("\n".join(it.name for it in loads))
         return
     if shutil.which(CALLGRIND[0]) is None:
-        end_wrong("valgrind is not installed, by which instructions are counted", 3)
+        end_wrong("valgrind, which counts the instructions, is not installed", 3)
     try:
         tables = measure(said, loads)
     except Failed as fault:

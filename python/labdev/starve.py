@@ -10,8 +10,8 @@ signal, late, with other bytes, or with more blocks of memory not freed. Each ha
 of an earlier run if it takes one back. Afterwards the folder must hold what it held before, or what it holds after a
 run that is refused nothing: a snapshot is whole or absent. It prints which runs end otherwise, and a line for each
 laboratory with how its runs have ended. It needs a C compiler, `cc`, for the few lines that count requests and refuse
-one. With LAB set, that program runs. It ends with 0; with 1 if something was wrong; and with 2 if its words are wrong:
-FIRST is a number from 1 on.
+one. With LAB set, that program runs. It ends with 0; with 1 if something was wrong; and with 2 if its
+arguments are wrong: FIRST is a number from 1 on.
 """
 import concurrent.futures
 import dataclasses

@@ -9,8 +9,8 @@ workers, ./lab and the scripts of tools/, damaged files, snapshots, and what the
 It proves nothing: .ci/run does. It tests the program of LAB, or else the one that ./lab runs, which is built first if
 needed. It prints how far it is, what a failed test says, and what a test passes over (its lines that begin so) because
 a program is not installed, or because root may do everything. The last line is `N passed, M failed`. It ends with 0;
-with 1 if a test failed, or if bin/lab is to be tested and is not the program of the sum kept with it; and with 2 if it
-is called wrongly or no test's name has one of the words.
+with 1 if a test failed, or if bin/lab is to be tested and is not the program of the sum kept with it; and with 2 if no
+test's name has one of the words or an option is wrong.
 """
 import concurrent.futures
 import dataclasses
@@ -149,14 +149,14 @@ class Runs:
         start = time.monotonic()
         process = self.begin(test)
         if process is None:
-            return Result("was not begun", "", 0.0)
+            return Result("was not started", "", 0.0)
         try:
             said, _ = process.communicate(timeout=SECONDS)
             fault = None if process.returncode == 0 else f"ended with {process.returncode}"
         except subprocess.TimeoutExpired:
             self.kill(process)
             said, _ = process.communicate()
-            fault = f"had not ended after {SECONDS} seconds"
+            fault = f"was still running after {SECONDS} seconds"
         with self.lock:
             del self.running[test.name]
         return Result(fault, said, time.monotonic() - start)

@@ -33,7 +33,7 @@ def is_version(text: str) -> bool:
 def numbers_of(version: str) -> Tuple[int, ...]:
     """Returns the numbers of a version X.Y.Z."""
     if not is_version(version):
-        raise NoVersion(f"{version} is no version of three numbers, as 1.2.0")
+        raise NoVersion(f"{version} is not a version of three numbers, such as 1.2.0")
     return tuple(int(number) for number in version.split("."))
 
 
@@ -98,7 +98,7 @@ def debian_of(debian: str, part: str, version: str, moment: datetime.datetime) -
     """Returns Debian's changelog with an entry more, which names who the entry before it names."""
     entry = ENTRY.match(debian)
     if not entry:
-        raise NoVersion(f"{DEBIAN} does not begin with an entry as Debian has them")
+        raise NoVersion(f"{DEBIAN} does not begin with an entry in Debian's form")
     package, words, maintainer = entry.groups()
     date = email.utils.format_datetime(moment)
     return f"{package} ({version}) {words}\n\n{debian_lines(part)}\n\n -- {maintainer}  {date}\n\n{debian}"

@@ -13,7 +13,7 @@ minutes. docs/SPEED.md has the figures of one machine.
     --list           prints the names of the runs, and makes none
 
 It prints a table in Markdown. It ends with 0; with 1 if a run failed, the logs differ or the table cannot be written;
-and with 2 if its words are wrong or there is no such program.
+and with 2 if its arguments are wrong or there is no such program.
 """
 import resource
 import subprocess
@@ -106,7 +106,7 @@ def main(words: List[str]) -> None:
         if name not in every:
             parser.error(f"no run has the name {name}: see --list")
     if asked.times < 1:
-        parser.error("a run is made once at least")
+        parser.error("--times is at least 1")
     if asked.list:
         print("\n".join(every))
         return

@@ -12,7 +12,7 @@ proves without the edits. All other edits are tried one by one with `rt must-fai
 of a trait, a type or a constant, and those of which the check of their function says nothing. If all edits of a crate
 were refused, crates/NAME/wrong/tried gets the sum of the crate's own sources and the sum of each edit. Commit it with
 the change. It ends with 0; with 1 if an edit was not refused or a crate has changed since its edits were tried; and
-with 2 if it is called wrongly.
+with 2 if it is called with wrong arguments.
 """
 import os
 import pathlib
@@ -26,7 +26,7 @@ from labdev.batches import refused_together
 from labdev.crates import below, uses_of
 from labdev.edit_places import place_of
 from labdev.wrong_bodies import WrongBodies, crates_with_wrong_bodies
-from labtools.common.program import TOP, end_unless, end_wrong
+from labtools.common.program import TOP, counted, end_unless, end_wrong
 
 USAGE = "NAME .. | --stale | --all | --check"
 # What rt says of an edit that the prover has refused.
@@ -111,7 +111,7 @@ def refused_by_prover(names: List[str], folder: pathlib.Path) -> Set[str]:
 def try_edits(crates: List[WrongBodies]) -> int:
     """Tries the edits of these crates, and keeps the sums of those crates of which each was refused."""
     if not shutil.which("rt"):
-        end_wrong("the Rattle kit is needed, whose command is rt")
+        end_wrong("this needs the Rattle kit, whose command is rt")
     with tempfile.TemporaryDirectory(prefix="lab-wrong-") as room:
         folder = pathlib.Path(room)
         copy_tree(crates, folder)
@@ -128,7 +128,7 @@ def try_edits(crates: List[WrongBodies]) -> int:
         if not missed:
             crate.keep(sums[crate.name])
         failed = failed or bool(missed)
-    print(f"{len(refused)} wrong bodies refused in {len(crates)} crates")
+    print(f"{counted(len(refused), 'wrong body', 'wrong bodies')} refused in {counted(len(crates), 'crate', 'crates')}")
     return 1 if failed else 0
 
 
@@ -137,9 +137,10 @@ def check() -> int:
     every = crates_with_wrong_bodies(TOP)
     stale = [it.name for it in every if not it.is_tried()]
     if stale:
-        print(f"the wrong bodies of these crates were tried over other sources: run tools/wrong {' '.join(stale)}")
+        print(f"these crates have changed since their wrong bodies were tried: run tools/wrong {' '.join(stale)}")
         return 1
-    print(f"{sum(len(it.edits()) for it in every)} wrong bodies were refused over the present sources of their crates")
+    edits = sum(len(it.edits()) for it in every)
+    print(f"{counted(edits, 'wrong body', 'wrong bodies')} tried over the present sources, and all refused")
     return 0
 
 

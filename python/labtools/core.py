@@ -13,7 +13,7 @@ FOLDER is made if needed. Core files of an earlier call are replaced; other file
 core, nothing is written. If anything fails, the folder keeps what it had before.
 
 It ends with 0; with 1 if the script or the snapshot cannot be taken that far, or the cores or the output cannot be
-written; with 2 if it is called wrongly; and with 130 if it was interrupted.
+written; with 2 if it is called with wrong arguments; and with 130 if it was interrupted.
 """
 import argparse
 import pathlib

@@ -11,8 +11,8 @@ If they differ it prints a diff with line numbers, in which equal accesses that 
   2 to 6  lab's own status: wrong words, a refused line, a file not read, the output or a snapshot not written
   70, 71  those of ./lab: no kit, or a failed build
   72      lab ended with 1: out of memory
-  73      this script was called wrongly, or LOG is not a plain file or cannot be written, or nothing was printed that
-          could be kept, or the output of this script cannot be written
+  73      wrong arguments; or LOG is not a plain file or cannot be written; or nothing was printed that could be kept;
+          or the output of this script cannot be written
 
 Any other number is lab's too. Only --bless changes LOG, and only if lab ended with 0 and printed something. With LAB
 set, that program runs in place of ./lab: LAB=/opt/lab/lab tools/expect .. tools/suite runs many tests.

@@ -6,7 +6,7 @@
     tools/log --html FILE LOG [LOG]             writes a page to look at; of two logs, with their differences
 
 LOG is a file, or `-` for the standard input: `./lab run s.resc | tools/log --html out.html -`. It ends with 0; with 1
-if a file or the output cannot be read or written; and with 2 if it is called wrongly.
+if a file or the output cannot be read or written; and with 2 if it is called with wrong arguments.
 """
 import argparse
 import errno

@@ -28,7 +28,7 @@ and finally `N passed, M failed`, in which an error counts as failed. Difference
 
   0    all passed (or their logs were kept)
   1    one failed
-  2    something could not be done: it was called wrongly, there is no test, a file is missing, lab did not end with 0
+  2    something could not be done: wrong arguments, no test, a missing file, or lab did not end with 0
   130  it was interrupted
 
 With LAB set, that program runs in place of ./lab of this repository: LAB=/opt/lab/lab tools/suite ..

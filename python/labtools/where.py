@@ -13,7 +13,7 @@ install pyelftools`); without it addresses stay numbers, and a line says so. Lin
 compiled with -g, which changes none of the loaded bytes.
 
 It ends with 0; with 1 if the script or the snapshot cannot be taken that far or the output cannot be written; with 2 if
-it is called wrongly; and with 130 if it was interrupted.
+it is called with wrong arguments; and with 130 if it was interrupted.
 """
 import argparse
 import dataclasses

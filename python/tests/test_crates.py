@@ -26,10 +26,17 @@ SOURCES = {
 HEADING = ["| Layer | Crate | What it is | Uses |", "|---|---|---|---|"]
 
 
-# What is printed: the program's crates, a longest way down, and tables of the program's crates and of the others.
+# What is printed: the program's crates, a longest way down, what stands on crates or below them, and tables of the
+# program's crates and of the others.
 PRINTED = {
     "": [" 3  lab_cli", " 2  middle", " 1  low"],
     "--chain": ["lab_cli > middle > low"],
+    "--above low": ["low", "middle", "other", "lab_cli", "middle_laws"],
+    "--above middle": ["middle", "lab_cli", "middle_laws"],
+    "--above other middle_laws": ["other", "middle_laws"],
+    "--below lab_cli": ["low", "middle", "lab_cli"],
+    "--below other middle_laws": ["low", "middle", "other", "middle_laws"],
+    "--below low": ["low"],
     "--heads": [
         *HEADING,
         "| 3 | `lab_cli` | The program. | `low`, `middle` |",

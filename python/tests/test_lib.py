@@ -87,18 +87,21 @@ class Machines(unittest.TestCase):
         self.assertEqual(self.told(), "[set()]")
         self.assertEqual(self.wired(numbered("context", 14), pin), "[set()]")
         for told, wanted in (
-            (self.wired(numbered("device", 1), source), "a wire is of a device that is not there"),
-            (self.wired(("timer", {}), pin), "a wire is of a timer that is not there"),
-            (self.wired(("software", {}), pin), "a wire is of a software that is not there"),
-            (self.wired(numbered("context", 15), pin), "a wire is of a context that is not there"),
-            (self.wired(numbered("device", 0), numbered("source", 128)), "a wire is of a source that is not there"),
+            (self.wired(numbered("device", 1), source), "a wire refers to a device that does not exist"),
+            (self.wired(("timer", {}), pin), "a wire refers to a timer that does not exist"),
+            (self.wired(("software", {}), pin), "a wire refers to a software that does not exist"),
+            (self.wired(numbered("context", 15), pin), "a wire refers to a context that does not exist"),
+            (
+                self.wired(numbered("device", 0), numbered("source", 128)),
+                "a wire refers to a source that does not exist",
+            ),
             (self.wired(numbered("context", 0), source), "a wire leads from the interrupt controller to itself"),
             (
                 self.told(regions=[{"base": 4096, "size": 4096, "what": numbered("memory", 1)}]),
-                "the region at 0x00001000 is of a memory that is not there",
+                "the region at 0x00001000 refers to a memory that does not exist",
             ),
-            (self.told(controller=NONE), "the name plic is of a controller that is not there"),
-            (self.told(reservations=[]), "0 reservations are not one for each of 1 processors"),
+            (self.told(controller=NONE), "the name plic refers to a controller that does not exist"),
+            (self.told(reservations=[]), "0 reservations, but 1 processors in the plan"),
             (self.told(names=[]), "the interrupt controller has no name"),
         ):
             self.assertEqual(told, f"board m: {wanted}")
@@ -144,9 +147,9 @@ class Forms(unittest.TestCase):
             (48, count + 1, 2, "the headers of its sections end behind its end"),
             (segment + 16, len(self.data), 4, "segment 0 ends behind its end"),
             (places[1] + 16, len(self.data), 4, "section 1 ends behind its end"),
-            (50, 0, 2, "the names of its sections are nowhere"),
-            (50, count, 2, "the names of its sections are nowhere"),
-            (places[symbols] + 24, count, 4, "the names of its symbols are nowhere"),
+            (50, 0, 2, "the table with the names of its sections is missing"),
+            (50, count, 2, "the table with the names of its sections is missing"),
+            (places[symbols] + 24, count, 4, "the table with the names of its symbols is missing"),
             (places[symbols] + 36, 17, 4, f"section {symbols} has symbols of 17 bytes, and not 16"),
         ):
             with self.subTest(at=at, value=value):

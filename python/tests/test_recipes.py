@@ -40,17 +40,17 @@ RIGHT = """# A page
 """
 # What a page says, and what is told of it, if that ends with 1.
 WRONG = (
-    ("<!-- run echo two -->\n\n    one\n", "1: `echo two` ended with 0, and not with 0, and printed\ntwo\n\n"),
-    ("\n\n<!-- run echo one = 1 -->\n\n    one\n", "3: `echo one` ended with 0, and not with 1, and printed\none\n\n"),
+    ("<!-- run echo two -->\n\n    one\n", "1: `echo two` printed\ntwo\n\n"),
+    ("\n\n<!-- run echo one = 1 -->\n\n    one\n", "3: `echo one` ended with 0 instead of 1 and printed\none\n\n"),
     (
         "<!-- run echo one; exit 4 -->\n\n    one\n",
-        "1: `echo one; exit 4` ended with 4, and not with 0, and printed\none\n\n",
+        "1: `echo one; exit 4` ended with 4 instead of 0 and printed\none\n\n",
     ),
-    ("<!-- run echo one -->\n\n| one |\n", "1: `echo one` ended with 0, and not with 0, and printed\none\n\n"),
-    ("<!-- run echo one -->\n\nNot at once.\n\n| one |\n", "1: no block stands after the comment\n"),
+    ("<!-- run echo one -->\n\n| one |\n", "1: `echo one` printed\none\n\n"),
+    ("<!-- run echo one -->\n\nNot at once.\n\n| one |\n", "1: no block follows the comment\n"),
     ("<!-- do -->\n\n    echo one\n    false\n    echo two\n", "1: the commands ended with 1 and printed\none\n\n"),
-    ("<!-- lines of VERSION -->\n\n    none of these\n", "1: these lines do not stand in VERSION\n"),
-    ("<!-- run true -->\nThe block is missing.\n", "1: no block stands after the comment\n"),
+    ("<!-- lines of VERSION -->\n\n    none of these\n", "1: VERSION does not have these lines\n"),
+    ("<!-- run true -->\nThe block is missing.\n", "1: no block follows the comment\n"),
 )
 
 
@@ -73,6 +73,6 @@ class Recipes(Commands):
 
     def test_what_needs_an_absent_program_is_passed_over(self) -> None:
         status, printed, name = self.try_page("<!-- run false with no-such-program -->\n\n    one\n")
-        self.assertEqual((status, printed), (0, f"passed over: 1 blocks of {name}, without no-such-program\n"))
+        self.assertEqual((status, printed), (0, f"passed over: 1 block of {name}, without no-such-program\n"))
         self.assertEqual(self.try_page("<!-- run echo one with bash -->\n\n    one\n")[:2], (0, ""))
         self.assertEqual(self.try_page("<!-- run false with bash -->\n\n    one\n")[0], 1)

@@ -179,7 +179,7 @@ class Tables(Room):
     def test_without_valgrind_it_says_so(self) -> None:
         status, text, told = self.speed("jumps")
         self.assertEqual((status, text), (3, ""))
-        self.assertIn("valgrind is not installed", told)
+        self.assertIn("valgrind, which counts the instructions, is not installed", told)
 
     def test_a_run_that_fails_is_told(self) -> None:
         self.stand_in("#!/bin/sh\necho broken\nexit 4\n")
@@ -191,7 +191,7 @@ class Tables(Room):
         self.stand_in(VALGRIND.replace("printf", ": printf"))
         status, text, told = self.speed("--keep", "kept", "gen/1", "print/lines")
         self.assertEqual((status, text), (1, ""))
-        self.assertIn("print/lines: the longer run has no more work", told)
+        self.assertIn("print/lines: the longer run did no more work", told)
         self.assertEqual(json.loads(self.read("kept")), {"gen/1": 148.0})
 
     def test_words_that_are_wrong(self) -> None:

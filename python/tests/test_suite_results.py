@@ -107,7 +107,7 @@ ERRORS: Dict[str, Row] = {
 # What lab could not do is no result: the causes of its statuses.
 STATUSES = {
     1: "memory ran out",
-    2: "its words are wrong",
+    2: "its arguments are wrong",
     3: "error: {path}.resc:1: S1 unknown command",
     4: "a file could not be read, x/b ({path}.resc:2)",
     5: "its output could not be written",

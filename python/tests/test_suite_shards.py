@@ -115,13 +115,13 @@ class Shards(WithStandIn):
                 "other.xml",
             ): "1-3.xml and other.xml are shares of different lists of tests, or by different times",
             ("whole.xml",): "whole.xml names no shard: --shard writes it",
-            ("none.xml",): "none.xml has no results as JUnit: 0 suites instead of one",
-            ("entity.xml",): "entity.xml has no results as JUnit: it has a DOCTYPE",
+            ("none.xml",): "none.xml has no JUnit results: 0 suites instead of one",
+            ("entity.xml",): "entity.xml has no JUnit results: it has a DOCTYPE",
             ("missing.xml",): "missing.xml cannot be read: No such file or directory",
             ("tests",): "tests cannot be read: it is a folder, not a plain file",
         }.items():
             self.expect(["--merge", *words], 2, "", f"suite: {told}\n")
-        self.assertIn("suite: cut.xml has no results as JUnit: ", self.ran(SUITE, "--merge", "cut.xml").stderr)
+        self.assertIn("suite: cut.xml has no JUnit results: ", self.ran(SUITE, "--merge", "cut.xml").stderr)
 
     def test_wrong_words_are_told(self) -> None:
         for words, told in {

@@ -610,7 +610,7 @@ class Ended(Room):
             for tool, words in ("where", "s.resc"), ("expect", "s.resc s.log"), ("expect", "--bless s.resc s.log"):
                 with self.subTest(number=number, tool=tool, words=words):
                     status, told = self.end_by(number, tool, words.split())
-                    wanted = (130, f"tools/{tool}: it was interrupted\n") if number == signal.SIGINT else (-number, "")
+                    wanted = (130, f"tools/{tool}: interrupted\n") if number == signal.SIGINT else (-number, "")
                     self.assertEqual((status, told), wanted)
         self.assertFalse((self.room / "s.log").exists())
 

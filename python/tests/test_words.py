@@ -11,28 +11,34 @@ from labtools.common.program import TOP
 from tests import tools
 from tests.commands import Commands
 
+CRATES = "[--chain | --heads | --others | --above NAME .. | --below NAME ..]"
+BUILD = "[LANES] | --unproved [--out FILE]"
 # The words of a command, its status and its line, where no program is there. COUNT, FIRST and LANES are numbers from 1.
 WORDS = (
-    ("mangle abc", 2, "abc is not a number from 1 to 999999999: tools/mangle [COUNT [SEED]]"),
-    ("mangle -1", 2, "-1 is not a number from 1 to 999999999: tools/mangle [COUNT [SEED]]"),
-    ("mangle 0", 2, "0 is not a number from 1 to 999999999: tools/mangle [COUNT [SEED]]"),
-    ("mangle 1000000000", 2, "1000000000 is not a number from 1 to 999999999: tools/mangle [COUNT [SEED]]"),
-    ("mangle 1 2 3", 2, "these words are not taken: tools/mangle [COUNT [SEED]]"),
-    ("starve abc", 2, "abc is not a number from 1 to 999999999: tools/starve [FIRST]"),
-    ("starve -1", 2, "-1 is not a number from 1 to 999999999: tools/starve [FIRST]"),
-    ("starve x y", 2, "these words are not taken: tools/starve [FIRST]"),
-    ("build 99999999999999999999", 2, "99999999999999999999 is not a number from 1 to 999: tools/build [LANES]"),
-    ("build 1000", 2, "1000 is not a number from 1 to 999: tools/build [LANES]"),
-    ("build x", 2, "x is not a number from 1 to 999: tools/build [LANES]"),
-    ("build 1 2", 2, "these words are not taken: tools/build [LANES]"),
-    ("edges x", 2, "these words are not taken: tools/edges [--limits]"),
-    ("edges --limit", 2, "these words are not taken: tools/edges [--limits]"),
-    ("edges --limits x", 2, "these words are not taken: tools/edges [--limits]"),
-    ("cuts x", 2, "these words are not taken: tools/cuts"),
-    ("costs nosuch", 2, "no name has the word nosuch: tools/costs [WORD ..]"),
-    ("costs hubs nosuch", 2, "no name has the word nosuch: tools/costs [WORD ..]"),
-    ("crates x", 2, "these words are not taken: tools/crates [--chain | --heads | --others]"),
-    ("crates --heads x", 2, "these words are not taken: tools/crates [--chain | --heads | --others]"),
+    ("mangle abc", 2, "abc is not a number from 1 to 999999999; usage: tools/mangle [COUNT [SEED]]"),
+    ("mangle -1", 2, "-1 is not a number from 1 to 999999999; usage: tools/mangle [COUNT [SEED]]"),
+    ("mangle 0", 2, "0 is not a number from 1 to 999999999; usage: tools/mangle [COUNT [SEED]]"),
+    ("mangle 1000000000", 2, "1000000000 is not a number from 1 to 999999999; usage: tools/mangle [COUNT [SEED]]"),
+    ("mangle 1 2 3", 2, "wrong arguments; usage: tools/mangle [COUNT [SEED]]"),
+    ("starve abc", 2, "abc is not a number from 1 to 999999999; usage: tools/starve [FIRST]"),
+    ("starve -1", 2, "-1 is not a number from 1 to 999999999; usage: tools/starve [FIRST]"),
+    ("starve x y", 2, "wrong arguments; usage: tools/starve [FIRST]"),
+    ("build 99999999999999999", 2, f"99999999999999999 is not a number from 1 to 999; usage: tools/build {BUILD}"),
+    ("build 1000", 2, f"1000 is not a number from 1 to 999; usage: tools/build {BUILD}"),
+    ("build x", 2, f"x is not a number from 1 to 999; usage: tools/build {BUILD}"),
+    ("build 1 2", 2, f"wrong arguments; usage: tools/build {BUILD}"),
+    ("build --unproved --out", 2, f"wrong arguments; usage: tools/build {BUILD}"),
+    (f"build --unproved --out {TOP}/bin/x", 2, f"{TOP}/bin/x is in bin/, where only proved programs are"),
+    ("edges x", 2, "wrong arguments; usage: tools/edges [--limits]"),
+    ("edges --limit", 2, "wrong arguments; usage: tools/edges [--limits]"),
+    ("edges --limits x", 2, "wrong arguments; usage: tools/edges [--limits]"),
+    ("cuts x", 2, "wrong arguments; usage: tools/cuts"),
+    ("costs nosuch", 2, "no name has the word nosuch; usage: tools/costs [WORD ..]"),
+    ("costs hubs nosuch", 2, "no name has the word nosuch; usage: tools/costs [WORD ..]"),
+    ("crates x", 2, f"wrong arguments; usage: tools/crates {CRATES}"),
+    ("crates --heads x", 2, f"wrong arguments; usage: tools/crates {CRATES}"),
+    ("crates --above", 2, f"wrong arguments; usage: tools/crates {CRATES}"),
+    ("crates --below lab_num none", 2, "crates.txt has no crate none"),
     ("recipes none.md", 2, "none.md: No such file or directory"),
     ("recipes page.md none.md", 2, "none.md: No such file or directory"),
     ("recipes .", 2, ".: Is a directory"),
@@ -110,7 +116,7 @@ class Words(Commands):
 
     def test_a_comment_without_a_block_is_told_with_its_line(self) -> None:
         ended = self.ended("recipes comment.md", LAB=str(self.room / "bin/lab"))
-        line = f"{os.path.relpath(self.room / 'comment.md', TOP)}:3: no block stands after the comment\n"
+        line = f"{os.path.relpath(self.room / 'comment.md', TOP)}:3: no block follows the comment\n"
         self.assertEqual((ended, self.printed, self.told), (1, line, ""))
 
     def test_an_output_that_is_full_is_told(self) -> None:

@@ -73,7 +73,7 @@ if "endless" not in text:
     print(f"only={len(asked)} proved=0")
 sys.exit(status)
 """
-STALE = "the wrong bodies of these crates were tried over other sources: run tools/wrong"
+STALE = "these crates have changed since their wrong bodies were tried: run tools/wrong"
 
 SOURCE = """/// Numbers.
 const MOST: u8 = 1;
@@ -157,13 +157,13 @@ class Wrong(Repository):
 
     def test_edits_that_were_refused_are_kept_and_others_of_the_crate_are_not_tried(self) -> None:
         refused = "rt: must-fail low/one.edit: refused, as it must be: src/lib.rt:1:1: error"
-        self.says(0, [refused, "1 wrong bodies refused in 1 crates"], "low")
+        self.says(0, [refused, "1 wrong body refused in 1 crate"], "low")
         self.assertEqual(self.called(), ["must-fail low"])
         self.assertTrue((self.room / "crates/low/wrong/tried").is_file())
         self.says(1, [f"{STALE} high"], "--check")
         both = [refused.replace("low/one", "high/two"), refused, "2 wrong bodies refused in 2 crates"]
         self.says(0, both, "--all")
-        self.says(0, ["2 wrong bodies were refused over the present sources of their crates"], "--check")
+        self.says(0, ["2 wrong bodies tried over the present sources, and all refused"], "--check")
         self.assertEqual(self.called(), ["must-fail high low"])
 
     def test_the_built_libraries_below_are_taken_along(self) -> None:
@@ -211,15 +211,15 @@ class Wrong(Repository):
         self.assertEqual(self.call(".ci/run"), (1, f"{STALE} high\n"))
         self.assertEqual(self.called(), [])
         self.try_all()
-        self.assertIn("2 wrong bodies were refused", self.call(".ci/run")[1])
+        self.assertIn("2 wrong bodies tried over the present sources, and all refused", self.call(".ci/run")[1])
         self.assertEqual(self.called(), ["ci"])
 
     def test_other_words_are_refused(self) -> None:
         usage = "tools/wrong NAME .. | --stale | --all | --check"
-        self.says(2, [f"tools/wrong: these words are not taken: {usage}"])
-        self.says(2, [f"tools/wrong: these words are not taken: {usage}"], "--all", "low")
-        self.says(2, [f"tools/wrong: these words are not taken: {usage}"], "--alle")
-        self.says(2, [f"tools/wrong: crates/lab_cli/wrong has no edits: {usage}"], "lab_cli")
+        self.says(2, [f"tools/wrong: wrong arguments; usage: {usage}"])
+        self.says(2, [f"tools/wrong: wrong arguments; usage: {usage}"], "--all", "low")
+        self.says(2, [f"tools/wrong: wrong arguments; usage: {usage}"], "--alle")
+        self.says(2, [f"tools/wrong: crates/lab_cli/wrong has no edits; usage: {usage}"], "lab_cli")
 
 
 class Batches(Repository):
@@ -247,7 +247,7 @@ class Batches(Repository):
                     f"low/first.edit: refused with others: {NOTE}",
                     f"low/second.edit: refused with others: {OTHER}",
                 ]
-                self.says(0, [*lines, "2 wrong bodies refused in 1 crates"], "low")
+                self.says(0, [*lines, "2 wrong bodies refused in 1 crate"], "low")
                 # (once without the edits, and once with both)
                 self.assertEqual(self.called(), [CHECKED, CHECKED])
                 self.assertEqual(self.read("crates/low/src/lib.rt"), SOURCE)
@@ -284,7 +284,7 @@ class Batches(Repository):
                 lines = [
                     f"low/second.edit: refused with others: {OTHER}",
                     REFUSED,
-                    "2 wrong bodies refused in 1 crates",
+                    "2 wrong bodies refused in 1 crate",
                 ]
                 self.says(0, lines, "low")
                 self.assertEqual(self.called(), calls)
@@ -325,7 +325,7 @@ class Batches(Repository):
         for what, words in changes.items():
             with self.subTest(what=what):
                 self.edit("first", *words)
-                self.says(0, [REFUSED, "1 wrong bodies refused in 1 crates"], "low")
+                self.says(0, [REFUSED, "1 wrong body refused in 1 crate"], "low")
                 self.assertEqual(self.called(), [ALONE])
 
     def test_an_edit_of_a_function_that_is_proved_by_hand_is_tried_alone(self) -> None:

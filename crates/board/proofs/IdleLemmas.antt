@@ -249,24 +249,24 @@ slots-before speed from k until positive begins h =
     (div-lt_iff_lt-mul {k = speed} {x = k} {y = until - from} (omega arith)).1 h in
     omega (arith, fewer)
 
--- Slots that are passed over, all before the microsecond until which the timer's line stays. The board `new` is it
--- after the cycles.
-pub passes :
-    (s new : State) (from a speed until stop : ℕ) →
-    speed ≡ s.view.numbers.speed → 1 ≤ speed → s.view.next < length s.view.cores →
-    All (λ core. core.mcycle < 2 ^ 64) s.view.cores →
-    IsIdle s.view (timer_up s.view.space.timer (slot_at from speed a)) →
-    new ≡ record s { view = passed s.view (stop - a) } →
+-- Slots that are passed over, all before the microsecond until which the timer's line stays, count cycles.
+pub passes_idle :
+    (v : View) (from a speed until stop : ℕ) → speed ≡ v.numbers.speed → 1 ≤ speed → v.next < length v.cores →
+    All (λ core. core.mcycle < 2 ^ 64) v.cores → IsIdle v (timer_up v.space.timer (slot_at from speed a)) →
     ((t : ℕ) → slot_at from speed a ≤ t → t < until →
-    timer_up s.view.space.timer t ≡ timer_up s.view.space.timer (slot_at from speed a)) →
+    timer_up v.space.timer t ≡ timer_up v.space.timer (slot_at from speed a)) →
     from ≤ until → stop ≤ (until - from) * speed →
-    new ≡ after s (stretch s.view from a (stop - a))
-passes s new from a speed until stop speed_is positive below fits idle new_is stays begins ends =
-    let timer = timer_up s.view.space.timer (slot_at from speed a) in
-    let line : IsStillFor s.view timer from a (stop - a) =
-    λ i h. subst (λ (q : ℕ). timer_up s.view.space.timer (slot_at from q (a + i)) ≡ timer) speed_is
+    stretch v from a (stop - a) ≡ quiet (passed v (stop - a))
+passes_idle v from a speed until stop speed_is positive below fits idle stays begins ends =
+    let timer = timer_up v.space.timer (slot_at from speed a) in
+    let line : IsStillFor v timer from a (stop - a) =
+    λ i h. subst (λ (q : ℕ). timer_up v.space.timer (slot_at from q (a + i)) ≡ timer) speed_is
     (stays (slot_at from speed (a + i)) (slots-rise speed from a i positive)
     (slots-before speed from (a + i) until positive begins (omega (arith, h, ends)))) in
-    new_is
-    ∙ passed_behind s (passed s.view (stop - a))
-    ∙ ap (after s) (sym (stretch-idle s.view timer from a (stop - a) below fits idle line))
+    stretch-idle v timer from a (stop - a) below fits idle line
+
+-- So the board `new` is it after the cycles.
+pub passes :
+    (s new : State) (from a n : ℕ) → new ≡ record s { view = passed s.view n } →
+    stretch s.view from a n ≡ quiet (passed s.view n) → new ≡ after s (stretch s.view from a n)
+passes s new from a n new_is idle = new_is ∙ passed_behind s (passed s.view n) ∙ ap (after s) (sym idle)

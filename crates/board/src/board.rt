@@ -136,6 +136,13 @@ impl<D: Device> Board<D> {
         self.bus.outbox.numbers.speed
     }
 
+    /// The number of the processor that takes the next slot.
+    pub fn next(&self) -> u8
+        ensures { result ≡ self.now.view.next }
+    {
+        self.next
+    }
+
     /// Sets the speed, in instructions a microsecond of all processors together.
     pub fn set_speed(&mut self, speed: u32)
         requires least { 1 ≤ speed }

@@ -1,6 +1,7 @@
 -- The slots of a grant on a board, as the slots of a job.
 use Rattle.std.specs.Prelude.{ℕ, zero, suc, ◌+◌, List, [], ◌∷◌, Option, slice_get}
 use Rattle.dev_core.specs.declared.post.Post.{Post}
+use Rattle.board.specs.Idle.{passed}
 use Rattle.board.specs.View.{View, State, after}
 use Rattle.board.specs.Stretch.{stretch}
 use Rattle.floor_core.specs.Job.{Job}
@@ -48,6 +49,10 @@ moved s = (record (stepped s.0 s.1 1) { posts = s.0.posts }, spent s.1 1)
 unfoldable pub moved_by : State × Grant → ℕ → State × Grant
 moved_by s zero = s
 moved_by s (suc n) = moved_by (moved s) n
+
+-- a board and its grant after the next n slots, where these are idle
+abbrev pub idled : (State × Grant) × Pass → ℕ → (State × Grant) × Pass
+idled s n = ((record s.0.0 { view = passed s.0.0.view n }, spent s.0.1 n), s.1)
 
 -- the board and the grant say what comes; the list is not asked. The pass stays that of its mail and board
 abbrev pub state_after : (State × Grant) × Pass → List (Option Post) → ℕ → (State × Grant) × Pass

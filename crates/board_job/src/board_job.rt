@@ -9,6 +9,7 @@ use board::{Board, SlotAt, Turn as Stretch};
 use dev_core::{Device, Post};
 use floor_core::{Job, Turn};
 use hub_mail::Pass;
+use probe_jobs::Timed;
 use std::marker::Model;
 use std::sync::Wait;
 use std::thread::Threads;
@@ -147,4 +148,33 @@ impl<D: Device + Send> Job for BoardJob<D> {
     ghost adds = { λ s coming a b _. state-add s coming a b };
 
     ghost rests = { state-none };
+}
+
+impl<D: Device + Send> Timed for BoardJob<D> {
+    ghost use Rattle.board_job.specs.Slots.{idled};
+    ghost use Rattle.board_job.specs.Inner.Moves.{state-rises};
+    ghost use Rattle.time_handle.specs.Grant.{elapsed};
+
+    ghost time = { λ s. elapsed s.0.1 };
+
+    ghost idled = { idled };
+
+    fn time(&self) -> u64 {
+        self.handle.elapsed().0
+    }
+
+    fn pass(&mut self, limit: u64) -> u64 {
+        laws::turns_are_stretches();
+        board::laws::stretches_number();
+        let most = limit.min(self.handle.left());
+        let at = SlotAt {
+            from: self.handle.from(),
+            first: self.handle.taken(),
+        };
+        let passed = self.board.pass(at, most);
+        self.handle.used(passed);
+        passed
+    }
+
+    ghost rises = { state-rises };
 }

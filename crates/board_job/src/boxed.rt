@@ -7,6 +7,7 @@ use dev_core::{Device, Post};
 use floor_core::{Job, Turn};
 use hub_mail::Pass;
 use lab_num::NoMemory;
+use probe_jobs::Timed;
 use std::alloc::Global;
 use std::marker::Model;
 use std::sync::Wait;
@@ -42,6 +43,19 @@ impl<D: Device> BoxedBoardJob<D> {
     {
         let BoxedBoardJob { inner } = self;
         Box::into_inner(inner)
+    }
+
+    pub fn board(&self) -> &Board<D>
+        ensures { result.now ≡ self.now.board }
+    {
+        self.inner.board()
+    }
+
+    pub fn handle(&self) -> Handle
+        ensures value { result ≡ self.now.grant }
+        ensures speed { result.speed ≡ self.now.board.view.numbers.speed }
+    {
+        self.inner.handle()
     }
 }
 
@@ -80,4 +94,24 @@ impl<D: Device + Send> Job for BoxedBoardJob<D> {
     ghost adds = { λ s coming a b _. state-add s coming a b };
 
     ghost rests = { state-none };
+}
+
+impl<D: Device + Send> Timed for BoxedBoardJob<D> {
+    ghost use Rattle.board_job.specs.Slots.{idled};
+    ghost use Rattle.board_job.specs.Inner.Moves.{state-rises};
+    ghost use Rattle.time_handle.specs.Grant.{elapsed};
+
+    ghost time = { λ s. elapsed s.0.1 };
+
+    ghost idled = { idled };
+
+    fn time(&self) -> u64 {
+        self.inner.time()
+    }
+
+    fn pass(&mut self, limit: u64) -> u64 {
+        self.inner.pass(limit)
+    }
+
+    ghost rises = { state-rises };
 }

@@ -9,4 +9,4 @@ mod round;
 
 pub use board_job::BoardJob;
 pub use boxed::BoxedBoardJob;
-pub use round::{run_board_jobs, run_board_jobs_with};
+pub use round::{run_board_jobs, run_board_jobs_with, run_boards_in_order};

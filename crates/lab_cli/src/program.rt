@@ -9,6 +9,7 @@ use floor_run::NoGate;
 use lab_io::{DiskFiles, DiskStore, OutSink, Sink, Store};
 use lab_num::NoMemory;
 use lab_top::{Status, command_words, exit_code, run_lab};
+use probe_jobs::Unwatched;
 use std::alloc::Global;
 use std::process::{ExitCode, Termination};
 use std::rt::{Env, Files};
@@ -74,5 +75,6 @@ fn run_by_words<R: Threads + Wait + Copy + Send + Sync, F: lab_io::Files, K: Sin
         ((files.new ≡ files.old) × (out.new ≡ out.old) × (store.new ≡ store.old)) }
 {
     let stock = full_stock(alloc)?;
-    Ok(run_lab(rt, alloc, words, files, out, store, stock, &NoGate))
+    let nobody = &mut Unwatched::new(alloc);
+    Ok(run_lab(rt, alloc, words, files, out, store, stock, &NoGate, nobody))
 }

@@ -15,11 +15,12 @@ ghost use Rattle.lab_state.specs.Round.{stepped, posts_made, entries_made};
 
 use crate::named_board::{NamedBoard, RoundOutput};
 use crate::team::Team;
-use board_job::BoxedBoardJob;
+use board_job::{BoxedBoardJob, run_boards_in_order};
 use dev_core::{Device, Entry};
 use floor_run::Gate;
 use hub_mail::{Boss, Mail, Pass, laws};
 use lab_num::{BoardNo, Micros, NoMemory};
+use probe_jobs::Watcher;
 use std::alloc::Global;
 use std::sync::Wait;
 use std::thread::Threads;
@@ -142,4 +143,46 @@ pub(crate) fn step_lent<R: Threads + Wait + Copy + Send + Sync, D: Device + Send
     let entries = take_all_back(rt, alloc, boards, source, jobs, &mut boss)?;
     let posts = boss.drain(rt)?;
     Ok(RoundOutput { posts, entries })
+}
+
+/// Has every board take the slots of its part of the open grant by itself, in order of time, and shows the boards to a
+/// watcher before each slot. All that the boards have posted meanwhile is taken out of their mail.
+pub(crate) fn step_driven<
+    R: Threads + Wait + Copy + Send + Sync,
+    D: Device + Send,
+    W: Watcher<BoxedBoardJob<D>>,
+>(
+    rt: &R,
+    watcher: &mut W,
+    alloc: Global,
+    boards: &mut [NamedBoard<D>],
+    source: &mut Source,
+    from: Micros,
+    q: u64,
+) -> Result<RoundOutput, NoMemory>
+    requires within { from.0 + q ≤ 10000000000 }
+    requires plans { first_without boards.old ≡ None }
+    requires standing { AreStanding (1000 * from.0) (numbers_of boards.old) }
+    requires some { 1 ≤ length boards.old }
+    requires few { length boards.old ≤ 16 }
+    requires opened { source.old.is_open ≡ true }
+    requires parts { source.old.handles ≡ map (part_of from.0 (from.0 + q)) boards.old }
+    ensures source { OnOk result (source.new ≡ record source.old { handles = map used_up source.old.handles }) }
+    ensures boards { OnOk result (boards.new ≡ map (stepped (in_round from.0 q)) boards.old) }
+    ensures posts { IfOk result (λ made. listing post_key made.posts.items
+        ≡ listing post_key (flat_map (posts_made (in_round from.0 q)) boards.old)) }
+    ensures keys { IfOk result (λ made. KeysDiffer post_key made.posts.items) }
+    ensures entries { IfOk result (λ made.
+        all_entries made.entries.items ≡ flat_map (entries_made (in_round from.0 q)) boards.old) }
+{
+    laws::arrival_laws();
+    let (mut boss, passes) = Mail::begin(rt, alloc, boards.len() as u8)?;
+    let jobs = lend_all(alloc, boards, &boss, passes, source, from, q)?;
+    let jobs = run_boards_in_order(rt, jobs, watcher)?;
+    let entries = take_all_back(rt, alloc, boards, source, jobs, &mut boss)?;
+    let sent = boss.drain(rt)?;
+    Ok(RoundOutput {
+        posts: sent,
+        entries,
+    })
 }

@@ -22,14 +22,16 @@ use crate::boundary::{hand_over_due, pause_of, push_pause};
 use crate::faults::LabFault;
 use crate::hub_list::HubList;
 use crate::lab::Lab;
-use crate::lending::{Crew, step_lent};
+use crate::lending::{Crew, step_driven, step_lent};
 use crate::named_board::{NamedBoard, RoundOutput};
 use crate::team::Team;
 use board::laws;
+use board_job::BoxedBoardJob;
 use dev_core::{Device, Entry, Post};
 use floor_run::Gate;
 use lab_num::{BoardNo, Key, Micros, NoMemory, Rows, listing_laws};
 use log_merge::{LogItem, Member0, merge_entries, merge_posts};
+use probe_jobs::{Unwatched, Watcher};
 use std::alloc::Global;
 use std::sync::Wait;
 use std::thread::Threads;
@@ -209,9 +211,15 @@ fn sharers<D: Device + Send, G: Gate>(
 }
 
 /// Gives every board the slots of its part of the open grant, and takes what they have made. Where one
-/// worker does it the boards stay where they are.
-fn step_boards<R: Threads + Wait + Copy + Send + Sync, D: Device + Send, G: Gate>(
+/// worker does it and nobody watches, the boards stay where they are.
+fn step_boards<
+    R: Threads + Wait + Copy + Send + Sync,
+    D: Device + Send,
+    G: Gate,
+    W: Watcher<BoxedBoardJob<D>>,
+>(
     crew: Crew<R, D, G>,
+    watcher: &mut W,
     alloc: Global,
     boards: &mut [NamedBoard<D>],
     source: &mut Source,
@@ -241,6 +249,9 @@ fn step_boards<R: Threads + Wait + Copy + Send + Sync, D: Device + Send, G: Gate
         workers,
         gate,
     } = crew;
+    if watcher.drives() && !boards.is_empty() {
+        return step_driven(rt, watcher, alloc, boards, source, from, q);
+    }
     let workers = sharers(team, workers, gate, boards, q);
     if workers == 1 {
         return step_in_place(alloc, boards, source, from, q);
@@ -255,8 +266,14 @@ fn step_boards<R: Threads + Wait + Copy + Send + Sync, D: Device + Send, G: Gate
 }
 
 /// Grants the boards `q` microseconds, and takes what they have made.
-fn take_slots<R: Threads + Wait + Copy + Send + Sync, D: Device + Send, G: Gate>(
+fn take_slots<
+    R: Threads + Wait + Copy + Send + Sync,
+    D: Device + Send,
+    G: Gate,
+    W: Watcher<BoxedBoardJob<D>>,
+>(
     crew: Crew<R, D, G>,
+    watcher: &mut W,
     alloc: Global,
     boards: &mut [NamedBoard<D>],
     source: &mut Source,
@@ -279,7 +296,7 @@ fn take_slots<R: Threads + Wait + Copy + Send + Sync, D: Device + Send, G: Gate>
     laws::stretches_number();
     let from = source.elapsed();
     source.grant(q);
-    let made = step_boards(crew, alloc, boards, source, from, q)?;
+    let made = step_boards(crew, watcher, alloc, boards, source, from, q)?;
     source.close();
     in_order(alloc, made)
 }
@@ -305,8 +322,14 @@ fn push_end(
 }
 
 /// Runs the boards for a round of `q` microseconds, and hands over what is due by then.
-fn play<R: Threads + Wait + Copy + Send + Sync, D: Device + Send, G: Gate>(
+fn play<
+    R: Threads + Wait + Copy + Send + Sync,
+    D: Device + Send,
+    G: Gate,
+    W: Watcher<BoxedBoardJob<D>>,
+>(
     crew: Crew<R, D, G>,
+    watcher: &mut W,
     alloc: Global,
     boards: &mut [NamedBoard<D>],
     source: &mut Source,
@@ -344,7 +367,7 @@ fn play<R: Threads + Wait + Copy + Send + Sync, D: Device + Send, G: Gate>(
     laws::stretches_tell_of_devices();
     listing_laws::<Post>();
     devices_laws(boards);
-    let Slots { posts, mut items } = take_slots(crew, alloc, boards, source, q)?;
+    let Slots { posts, mut items } = take_slots(crew, watcher, alloc, boards, source, q)?;
     let at = source.elapsed();
     let notes = hand_over_due(alloc, boards, hubs, pending, &posts, at)?;
     let pause = pause_of(&posts);
@@ -357,14 +380,16 @@ fn play<R: Threads + Wait + Copy + Send + Sync, D: Device + Send, G: Gate>(
 
 impl<D: Device + Send> Lab<D> {
     /// Runs one round of `q` microseconds as `round` does. Its workers are the caller and the helpers of the team,
-    /// if it has any. `LabFault::Memory` spends the laboratory.
-    pub fn round_by<R: Threads + Wait + Copy + Send + Sync, G: Gate>(
+    /// if it has any. A watcher who wants to be shown the boards has the caller run them alone, in order of time. The
+    /// round is the same whoever watches. `LabFault::Memory` spends the laboratory.
+    pub fn round_by<R: Threads + Wait + Copy + Send + Sync, G: Gate, W: Watcher<BoxedBoardJob<D>>>(
         &mut self,
         rt: &R,
         team: &Team<D>,
         q: u64,
         workers: u8,
         gate: &G,
+        watcher: &mut W,
     ) -> Result<RoundLog, LabFault>
         requires some { 0 < q }
         requires workers { (1 ≤ workers) × (workers ≤ 8) }
@@ -390,6 +415,7 @@ impl<D: Device + Send> Lab<D> {
         };
         let Ok(log) = play(
             crew,
+            watcher,
             self.alloc,
             &mut self.boards,
             &mut self.source,
@@ -428,6 +454,7 @@ impl<D: Device + Send> Lab<D> {
         ensures spent { self.old.spent ≡ true → result ≡ Err LabFault.Memory }
     {
         let team = Team::none();
-        self.round_by(rt, &team, q, workers, gate)
+        let mut unwatched = Unwatched::<BoxedBoardJob<D>>::new(self.alloc);
+        self.round_by(rt, &team, q, workers, gate, &mut unwatched)
     }
 }

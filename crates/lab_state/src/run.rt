@@ -11,10 +11,12 @@ use crate::faults::{LabFault, RunCause, RunFault};
 use crate::lab::Lab;
 use crate::round::{RoundLog, awake_slots};
 use crate::team::{Team, WORTH_THREADS};
+use board_job::BoxedBoardJob;
 use dev_core::Device;
 use floor_run::Gate;
 use lab_num::{BoardNo, Key, LAST, Micros, Rows};
 use log_merge::LogItem;
+use probe_jobs::Unwatched;
 use std::sync::Wait;
 use std::thread::{Threads, join_mut};
 
@@ -82,7 +84,8 @@ impl<D: Device + Send> Lab<D> {
         ensures plans { OnOk result (HaveAllPlans self.new.lab) }
         ensures err { OnErr result (self.new.spent ≡ true) }
     {
-        let log = self.round_by(rt, team, q, workers, gate)?;
+        let mut unwatched = Unwatched::<BoxedBoardJob<D>>::new(self.alloc);
+        let log = self.round_by(rt, team, q, workers, gate, &mut unwatched)?;
         if lines.extend_from_slice(log.lines.items()).is_err() {
             self.spent = true;
             return Err(LabFault::Memory);

@@ -5,6 +5,7 @@ use floor_run::Gate;
 use lab_io::{MemFiles, MemSink, MemStore};
 use lab_num::NoMemory;
 use lab_top::{Status, run_lab};
+use probe_jobs::Unwatched;
 use std::alloc::Global;
 use std::sync::Wait;
 use std::thread::Threads;
@@ -81,7 +82,8 @@ fn run_on<R: Threads + Wait + Copy + Send + Sync, D: Device + Send, G: Gate>(
         return Err(NoMemory);
     }
     let words = words_of(alloc, words)?;
-    Ok(run_lab(rt, alloc, &words, files, out, store, stock, gate))
+    let nobody = &mut Unwatched::new(alloc);
+    Ok(run_lab(rt, alloc, &words, files, out, store, stock, gate, nobody))
 }
 
 /// A run by these words, on devices enough for every laboratory: how it ends.

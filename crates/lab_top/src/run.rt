@@ -27,6 +27,7 @@ use crate::script::{Opened, open};
 use crate::snapshots::{SnapshotLine, StoreHalt, fetch, keep, restore};
 use crate::status::Status;
 use crate::words::{Asked, ScriptRun, read_request};
+use board_job::BoxedBoardJob;
 use dev_core::{Device, Stock};
 use floor_run::Gate;
 use lab_arguments::{UsageCause, WordsFault, usage_line};
@@ -34,6 +35,7 @@ use lab_gen::generate;
 use lab_io::{Files, Sink, Store, write_whole};
 use lab_num::Text;
 use monitor::{Cause, Monitor, Progress, ScriptFault};
+use probe_jobs::Watcher;
 use std::alloc::Global;
 use std::sync::Wait;
 use std::thread::Threads;
@@ -43,7 +45,8 @@ const MOST_STEPS: u32 = 100_001;
 
 /// Runs the program for its command words, reading from `files`, writing to `out`, and keeping snapshots in
 /// `store`. At most as many workers as the words name run the boards. Where several run several boards, each
-/// enters the gate before each turn.
+/// enters the gate before each turn. A watcher who wants to be shown the boards of a script has one worker run them.
+/// What is promised holds of every watcher, who changes nothing of it.
 pub fn run_lab<
     R: Threads + Wait + Copy + Send + Sync,
     D: Device + Send,
@@ -51,6 +54,7 @@ pub fn run_lab<
     K: Sink,
     S: Store,
     G: Gate,
+    W: Watcher<BoxedBoardJob<D>>,
 >(
     rt: &R,
     alloc: Global,
@@ -60,6 +64,7 @@ pub fn run_lab<
     store: &mut S,
     stock: Stock<D>,
     gate: &G,
+    watcher: &mut W,
 ) -> Status
     requires { IsFull D.meaning stock }
 
@@ -107,7 +112,7 @@ pub fn run_lab<
     ensures store { OnlyStores S.Store (result ≡ Status.Unstored) store.old store.new }
 {
     let outside = &mut Outside { files, out, store };
-    run_words(rt, alloc, words, outside, stock, gate)
+    run_words(rt, alloc, words, outside, stock, gate, watcher)
 }
 
 /// Does what the words ask for.
@@ -118,6 +123,7 @@ fn run_words<
     K: Sink,
     S: Store,
     G: Gate,
+    W: Watcher<BoxedBoardJob<D>>,
 >(
     rt: &R,
     alloc: Global,
@@ -125,6 +131,7 @@ fn run_words<
     outside: &mut Outside<'_, '_, '_, F, K, S>,
     stock: Stock<D>,
     gate: &G,
+    watcher: &mut W,
 ) -> Status
     requires { IsFull D.meaning stock }
     ensures course { Goes F.Files K.Sink S.Store (transcript (map string_bytes words.now))
@@ -135,7 +142,9 @@ fn run_words<
     ensures outside { OnlyUses F.Files K.Sink S.Store (λ status. result ≡ status) outside.old outside.new }
 {
     match read_request(alloc, words) {
-        Ok(Asked::Script(request)) => run_file(rt, alloc, request, outside, stock, gate),
+        Ok(Asked::Script(request)) => {
+            run_file(rt, alloc, request, outside, stock, gate, watcher)
+        }
         Ok(
             Asked::Generated {
                 seed,
@@ -199,6 +208,7 @@ fn run_file<
     K: Sink,
     S: Store,
     G: Gate,
+    W: Watcher<BoxedBoardJob<D>>,
 >(
     rt: &R,
     alloc: Global,
@@ -206,6 +216,7 @@ fn run_file<
     outside: &mut Outside<'_, '_, '_, F, K, S>,
     stock: Stock<D>,
     gate: &G,
+    watcher: &mut W,
 ) -> Status
     requires full { IsFull D.meaning stock }
     requires some_worker { 1 ≤ request.setting.workers }
@@ -217,7 +228,9 @@ fn run_file<
     ensures outside { OnlyUses F.Files K.Sink S.Store (λ status. result ≡ status) outside.old outside.new }
 {
     match open(alloc, outside.files, request.script.as_str()) {
-        Opened::Text(text) => run_script(rt, alloc, request, text, outside, stock, gate),
+        Opened::Text(text) => {
+            run_script(rt, alloc, request, text, outside, stock, gate, watcher)
+        }
         Opened::Refused(fault) => tell(alloc, fault, outside.out),
         Opened::Unread => Status::Unread,
         Opened::Memory => Status::Memory,
@@ -232,6 +245,7 @@ fn run_script<
     K: Sink,
     S: Store,
     G: Gate,
+    W: Watcher<BoxedBoardJob<D>>,
 >(
     rt: &R,
     alloc: Global,
@@ -240,6 +254,7 @@ fn run_script<
     outside: &mut Outside<'_, '_, '_, F, K, S>,
     stock: Stock<D>,
     gate: &G,
+    watcher: &mut W,
 ) -> Status
     requires full { IsFull D.meaning stock }
     requires short { length (string_bytes text) ≤ 2 ^ 24 }
@@ -255,7 +270,7 @@ fn run_script<
     let Ok(monitor) = Monitor::new(alloc, script.as_str(), text, stock, setting) else {
         return Status::Memory;
     };
-    take_commands(rt, alloc, monitor, outside, gate)
+    take_commands(rt, alloc, monitor, outside, gate, watcher)
 }
 
 /// Takes the commands of a script to its end, the first fault or the first failure.
@@ -266,12 +281,14 @@ fn take_commands<
     K: Sink,
     S: Store,
     G: Gate,
+    W: Watcher<BoxedBoardJob<D>>,
 >(
     rt: &R,
     alloc: Global,
     mut monitor: Monitor<D>,
     outside: &mut Outside<'_, '_, '_, F, K, S>,
     gate: &G,
+    watcher: &mut W,
 ) -> Status
     requires goes_on { monitor.ended ≡ false }
     requires few { monitor.state.flow.kept.taken ≤ 100000 }
@@ -281,7 +298,7 @@ fn take_commands<
     ensures outside { OnlyUses F.Files K.Sink S.Store (λ status. result ≡ status) outside.old outside.new }
 {
     'commands: for _turn in 0..MOST_STEPS {
-        match take_command(rt, alloc, monitor, outside, gate) {
+        match take_command(rt, alloc, monitor, outside, gate, watcher) {
             Ok(next) => monitor = next,
             Err(status) => return status,
         }
@@ -297,12 +314,14 @@ fn take_command<
     K: Sink,
     S: Store,
     G: Gate,
+    W: Watcher<BoxedBoardJob<D>>,
 >(
     rt: &R,
     alloc: Global,
     mut monitor: Monitor<D>,
     outside: &mut Outside<'_, '_, '_, F, K, S>,
     gate: &G,
+    watcher: &mut W,
 ) -> Result<Monitor<D>, Status>
     requires { monitor.ended ≡ false }
     ensures course { ForHeld F.Files S.Store outside.old (λ held kept. (more : ℕ) →
@@ -321,6 +340,7 @@ fn take_command<
         outside.out,
         outside.store,
         gate,
+        watcher,
     ) {
         Ok(None) => Ok(monitor),
         Ok(Some(line)) => take_back(alloc, monitor, outside.store, line, outside.out),
@@ -337,6 +357,7 @@ fn try_command<
     K: Sink,
     S: Store,
     G: Gate,
+    W: Watcher<BoxedBoardJob<D>>,
 >(
     rt: &R,
     alloc: Global,
@@ -345,6 +366,7 @@ fn try_command<
     out: &mut K,
     store: &mut S,
     gate: &G,
+    watcher: &mut W,
 ) -> Result<Option<SnapshotLine>, Status>
     requires { monitor.old.ended ≡ false }
     ensures course { ForSome (F.held files.old) (λ held. ForSome (S.kept store.old) (λ kept. (more : ℕ) →
@@ -358,7 +380,7 @@ fn try_command<
     ensures output { OnlyWrites K.Sink (result ≡ Err Status.Unwritten) out.old out.new }
     ensures store { OnlyStores S.Store (result ≡ Err Status.Unstored) store.old store.new }
 {
-    match monitor.step_to(rt, files, out, gate) {
+    match monitor.step_to(rt, files, out, gate, watcher) {
         Progress::Done => Ok(None),
         Progress::Cut(fault) => Err(Status::from(fault)),
         Progress::Save { name, file, line } => match keep(alloc, monitor, store, name.as_str()) {

@@ -11,10 +11,12 @@ use crate::images::Format;
 use crate::load::Load;
 use crate::monitor::Monitor;
 use crate::stop::{Stop, Storing};
+use board_job::BoxedBoardJob;
 use dev_core::Device;
 use floor_run::Gate;
 use lab_io::{Files, Sink, write_whole};
 use lab_state::laws;
+use probe_jobs::Watcher;
 use resc_read::{Command, LineFault};
 use resc_vars::ScriptCause;
 use std::sync::Wait;
@@ -89,13 +91,20 @@ impl<D: Device> Monitor<D> {
 
 impl<D: Device + Send> Monitor<D> {
     /// Carries out a command, and writes what it prints.
-    pub(crate) fn carry_out_to<R: Threads + Wait + Copy + Send + Sync, F: Files, K: Sink, G: Gate>(
+    pub(crate) fn carry_out_to<
+        R: Threads + Wait + Copy + Send + Sync,
+        F: Files,
+        K: Sink,
+        G: Gate,
+        W: Watcher<BoxedBoardJob<D>>,
+    >(
         &mut self,
         rt: &R,
         files: &mut F,
         out: &mut K,
         command: Command,
         gate: &G,
+        watcher: &mut W,
     ) -> Result<(), Halt>
         requires unspent { self.old.spent ≡ false }
         requires waits { self.old.ended ≡ true }
@@ -106,8 +115,8 @@ impl<D: Device + Send> Monitor<D> {
     {
         laws::runs_keep_lines_open(&self.lab);
         match command {
-            Command::RunFor { length } => self.run_for(rt, out, length, gate),
-            Command::Start => self.start(rt, out, gate),
+            Command::RunFor { length } => self.run_for(rt, out, length, gate, watcher),
+            Command::Start => self.start(rt, out, gate, watcher),
             command => self.carry_out_at_once(files, out, command),
         }
     }

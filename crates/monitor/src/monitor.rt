@@ -26,12 +26,14 @@ use crate::setting::Setting;
 use crate::step::Step;
 use crate::stop::{Stop, Storing};
 use crate::text_sink::TextSink;
+use board_job::BoxedBoardJob;
 use dev_core::{Device, Stock};
 use floor_run::Gate;
 use lab_io::{Files, Sink, WriteFault};
 use lab_num::{BoardNo, Micros, NoMemory, Rows, Text};
 use lab_state::Lab;
 use log_text::Lines;
+use probe_jobs::{Unwatched, Watcher};
 use resc_read::read_line;
 use resc_vars::{Flow, Next};
 use std::alloc::Global;
@@ -235,7 +237,8 @@ impl<D: Device + Send> Monitor<D> {
         ensures files { OnlyReads F.Files (result ≡ Step.Unread) files.old files.new }
     {
         let mut out = TextSink::new(self.alloc);
-        match self.step_to(rt, files, &mut out, gate) {
+        let mut unwatched = Unwatched::<BoxedBoardJob<D>>::new(self.alloc);
+        match self.step_to(rt, files, &mut out, gate, &mut unwatched) {
             Progress::Done => Step::Text(Rows::of(out.text)),
             Progress::Cut(_) => Step::Memory,
             Progress::Save { name, file, line } => Step::Save { name, file, line },
@@ -250,14 +253,15 @@ impl<D: Device + Send> Monitor<D> {
     /// Carries out the next command of the script, and writes what it prints. What a round of a run prints is written
     /// before the next round begins: by one `write_whole`, and by none where it has no lines. Files that the command
     /// names are read from `files`. Any answer but `Done`, `Save` and `Load` ends the script. Where several workers run
-    /// several boards, each enters the gate before each turn.
-    pub fn step_to<R: Threads + Wait + Copy + Send + Sync, F: Files, K: Sink, G: Gate>(
-        &mut self,
-        rt: &R,
-        files: &mut F,
-        out: &mut K,
-        gate: &G,
-    ) -> Progress
+    /// several boards, each enters the gate before each turn. A watcher who wants to be shown the boards has the caller
+    /// run them alone. What is promised holds of every watcher.
+    pub fn step_to<
+        R: Threads + Wait + Copy + Send + Sync,
+        F: Files,
+        K: Sink,
+        G: Gate,
+        W: Watcher<BoxedBoardJob<D>>,
+    >(&mut self, rt: &R, files: &mut F, out: &mut K, gate: &G, watcher: &mut W) -> Progress
         requires { self.old.ended ≡ false }
 
         // It has done what its definition says, has asked for just its names and has written what the command
@@ -283,7 +287,7 @@ impl<D: Device + Send> Monitor<D> {
         self.ended = true;
         match self.flow.next() {
             Next::Line { file, line, text } => {
-                self.take_line(rt, files, out, file, line, text.as_str(), gate)
+                self.take_line(rt, files, out, file, line, text.as_str(), gate, watcher)
             },
             Next::End => Progress::End,
             Next::Fault { file, line, cause } => fault_at(file, line, Cause::Script(cause)),
@@ -292,7 +296,13 @@ impl<D: Device + Send> Monitor<D> {
     }
 
     /// Does what a line asks for. The script goes on where it says something or is for the store.
-    fn take_line<R: Threads + Wait + Copy + Send + Sync, F: Files, K: Sink, G: Gate>(
+    fn take_line<
+        R: Threads + Wait + Copy + Send + Sync,
+        F: Files,
+        K: Sink,
+        G: Gate,
+        W: Watcher<BoxedBoardJob<D>>,
+    >(
         &mut self,
         rt: &R,
         files: &mut F,
@@ -301,6 +311,7 @@ impl<D: Device + Send> Monitor<D> {
         line: u32,
         text: &str,
         gate: &G,
+        watcher: &mut W,
     ) -> Progress
         requires goes_on { self.old.state.flow.ended ≡ false }
         requires unspent { self.old.spent ≡ false }
@@ -314,7 +325,7 @@ impl<D: Device + Send> Monitor<D> {
         ensures files { OnlyReads F.Files (result ≡ Progress.Unread) files.old files.new }
         ensures output { OnlyWrites K.Sink (result ≡ Progress.Cut WriteFault.Unwritten) out.old out.new }
     {
-        match self.carry_out_line(rt, files, out, text, gate) {
+        match self.carry_out_line(rt, files, out, text, gate, watcher) {
             Ok(()) => {
                 self.ended = false;
                 Progress::Done
@@ -328,13 +339,20 @@ impl<D: Device + Send> Monitor<D> {
     }
 
     /// Carries out the command of a line.
-    fn carry_out_line<R: Threads + Wait + Copy + Send + Sync, F: Files, K: Sink, G: Gate>(
+    fn carry_out_line<
+        R: Threads + Wait + Copy + Send + Sync,
+        F: Files,
+        K: Sink,
+        G: Gate,
+        W: Watcher<BoxedBoardJob<D>>,
+    >(
         &mut self,
         rt: &R,
         files: &mut F,
         out: &mut K,
         text: &str,
         gate: &G,
+        watcher: &mut W,
     ) -> Result<(), Halt>
         requires goes_on { self.old.state.flow.ended ≡ false }
         requires unspent { self.old.spent ≡ false }
@@ -344,7 +362,7 @@ impl<D: Device + Send> Monitor<D> {
             result self.old self.new files.old files.new out.old out.new }
     {
         let command = read_line(self.alloc, text)?;
-        self.carry_out_to(rt, files, out, command, gate)
+        self.carry_out_to(rt, files, out, command, gate, watcher)
     }
 }
 

@@ -14,12 +14,14 @@ use crate::halt::Halt;
 use crate::laws;
 use crate::monitor::Monitor;
 use crate::stop::Stop;
+use board_job::BoxedBoardJob;
 use dev_core::Device;
 use floor_run::Gate;
 use lab_io::{Sink, WriteFault, write_whole};
 use lab_num::{Key, Micros, NoMemory};
 use lab_state::{LabFault, RoundLog, RunCause, Team};
 use log_merge::{LogItem, Names};
+use probe_jobs::{Unwatched, Watcher};
 use resc_vars::ScriptCause;
 use std::sync::Wait;
 use std::thread::{Threads, join_mut};
@@ -79,12 +81,13 @@ impl<D: Device> Monitor<D> {
 
 impl<D: Device + Send> Monitor<D> {
     /// Plays one round of `q` microseconds. Where memory runs out the laboratory is spent.
-    fn play_silently<R: Threads + Wait + Copy + Send + Sync, G: Gate>(
+    fn play_silently<R: Threads + Wait + Copy + Send + Sync, G: Gate, W: Watcher<BoxedBoardJob<D>>>(
         &mut self,
         rt: &R,
         team: &Team<D>,
         q: u64,
         gate: &G,
+        watcher: &mut W,
     ) -> Result<RoundLog, LabFault>
         requires unspent { self.old.spent ≡ false }
         requires waits { self.old.ended ≡ true }
@@ -99,12 +102,17 @@ impl<D: Device + Send> Monitor<D> {
         ensures plans { OnOk result (HaveAllPlans self.new.state.lab) }
         ensures ended { self.new.ended ≡ true }
     {
-        self.lab.round_by(rt, team, q, self.workers, gate)
+        self.lab.round_by(rt, team, q, self.workers, gate, watcher)
     }
 
     /// Plays one round of `q` microseconds and writes what it prints: by one write of a whole text, and by none where
     /// it has no lines. Gives its pause, if it has one.
-    fn play_round<R: Threads + Wait + Copy + Send + Sync, K: Sink, G: Gate>(
+    fn play_round<
+        R: Threads + Wait + Copy + Send + Sync,
+        K: Sink,
+        G: Gate,
+        W: Watcher<BoxedBoardJob<D>>,
+    >(
         &mut self,
         rt: &R,
         team: &Team<D>,
@@ -112,6 +120,7 @@ impl<D: Device + Send> Monitor<D> {
         out: &mut K,
         q: u64,
         gate: &G,
+        watcher: &mut W,
     ) -> Result<Option<Key>, WriteFault>
         requires unspent { self.old.spent ≡ false }
         requires waits { self.old.ended ≡ true }
@@ -123,7 +132,7 @@ impl<D: Device + Send> Monitor<D> {
         ensures paused { IfOk result (λ paused. paused ≡ (round self.old.state.lab q).paused) }
         ensures plans { OnOk result (HaveAllPlans self.new.state.lab) }
     {
-        let Ok(log) = self.play_silently(rt, team, q, gate) else {
+        let Ok(log) = self.play_silently(rt, team, q, gate, watcher) else {
             return Err(WriteFault::Memory);
         };
         let Ok(text) = self.print(names, log.lines.items()) else {
@@ -136,7 +145,12 @@ impl<D: Device + Send> Monitor<D> {
     }
 
     /// Plays the rounds of a run of `d` microseconds, one after another, up to one that has a pause.
-    fn play_rounds<R: Threads + Wait + Copy + Send + Sync, K: Sink, G: Gate>(
+    fn play_rounds<
+        R: Threads + Wait + Copy + Send + Sync,
+        K: Sink,
+        G: Gate,
+        W: Watcher<BoxedBoardJob<D>>,
+    >(
         &mut self,
         rt: &R,
         team: &Team<D>,
@@ -144,6 +158,7 @@ impl<D: Device + Send> Monitor<D> {
         out: &mut K,
         d: u64,
         gate: &G,
+        watcher: &mut W,
     ) -> Result<(), WriteFault>
         requires unspent { self.old.spent ≡ false }
         requires waits { self.old.ended ≡ true }
@@ -158,13 +173,13 @@ impl<D: Device + Send> Monitor<D> {
         let mut left = d;
         'rounds: while left > 0 && paused.is_none() {
             let q = left.min(longest);
-            paused = self.play_round(rt, team, names, out, q, gate)?;
+            paused = self.play_round(rt, team, names, out, q, gate, watcher)?;
             left -= q;
         }
         Ok(())
     }
 
-    /// The same beside the helpers of a team, who are let go at its end.
+    /// The same beside the helpers of a team, who are let go at its end, where nobody watches.
     fn play_beside<R: Threads + Wait + Copy + Send + Sync, K: Sink, G: Gate>(
         &mut self,
         rt: &R,
@@ -189,7 +204,8 @@ impl<D: Device + Send> Monitor<D> {
             ensures { IsPlayed K.Sink names.entry.now (run self.entry.now.state.lab d)
                 result self.entry.now self.exit.now out.entry.now out.exit.now }
         {
-            let run = self.play_rounds(rt, team, names, out, d, gate);
+            let mut unwatched = Unwatched::<BoxedBoardJob<D>>::new(alloc);
+            let run = self.play_rounds(rt, team, names, out, d, gate, &mut unwatched);
             team.dismiss();
             run
         };
@@ -197,13 +213,15 @@ impl<D: Device + Send> Monitor<D> {
         run
     }
 
-    /// Plays a run of `d` microseconds, by the caller alone or with helpers, who live as long as the run.
-    fn play<R: Threads + Wait + Copy + Send + Sync, K: Sink, G: Gate>(
+    /// Plays a run of `d` microseconds, by the caller alone or with helpers, who live as long as the run. A watcher who
+    /// wants to be shown the boards has the caller run them alone.
+    fn play<R: Threads + Wait + Copy + Send + Sync, K: Sink, G: Gate, W: Watcher<BoxedBoardJob<D>>>(
         &mut self,
         rt: &R,
         out: &mut K,
         d: Micros,
         gate: &G,
+        watcher: &mut W,
     ) -> Result<(), WriteFault>
         requires unspent { self.old.spent ≡ false }
         requires waits { self.old.ended ≡ true }
@@ -216,20 +234,19 @@ impl<D: Device + Send> Monitor<D> {
             return Err(WriteFault::Memory);
         };
         let team = self.lab.team_for(d.0, self.workers, gate);
-        if !team.has_helpers() {
-            return self.play_rounds(rt, &team, &names, out, d.0, gate);
+        if watcher.drives() || !team.has_helpers() {
+            return self.play_rounds(rt, &team, &names, out, d.0, gate, watcher);
         }
         self.play_beside(rt, &team, &names, out, d.0, gate)
     }
 
     /// Runs the laboratory, and writes its log. Whether it may run goes by the length that is asked for.
-    pub(crate) fn run_for<R: Threads + Wait + Copy + Send + Sync, K: Sink, G: Gate>(
-        &mut self,
-        rt: &R,
-        out: &mut K,
-        length: Micros,
-        gate: &G,
-    ) -> Result<(), Halt>
+    pub(crate) fn run_for<
+        R: Threads + Wait + Copy + Send + Sync,
+        K: Sink,
+        G: Gate,
+        W: Watcher<BoxedBoardJob<D>>,
+    >(&mut self, rt: &R, out: &mut K, length: Micros, gate: &G, watcher: &mut W) -> Result<(), Halt>
         requires unspent { self.old.spent ≡ false }
         requires waits { self.old.ended ≡ true }
         ensures made { IsRunMade (runs.run_for run self.old.state length.0) result self.old self.new
@@ -240,19 +257,19 @@ impl<D: Device + Send> Monitor<D> {
         laws::runs_keep_names();
         self.lab.admit_run(length)?;
         let played = self.length_of(length);
-        match self.play(rt, out, played, gate) {
+        match self.play(rt, out, played, gate, watcher) {
             Ok(()) => Ok(()),
             Err(fault) => Err(Halt::Cut(fault)),
         }
     }
 
     /// Runs to the time of the setting, if that is still to come.
-    pub(crate) fn start<R: Threads + Wait + Copy + Send + Sync, K: Sink, G: Gate>(
-        &mut self,
-        rt: &R,
-        out: &mut K,
-        gate: &G,
-    ) -> Result<(), Halt>
+    pub(crate) fn start<
+        R: Threads + Wait + Copy + Send + Sync,
+        K: Sink,
+        G: Gate,
+        W: Watcher<BoxedBoardJob<D>>,
+    >(&mut self, rt: &R, out: &mut K, gate: &G, watcher: &mut W) -> Result<(), Halt>
         requires unspent { self.old.spent ≡ false }
         requires waits { self.old.ended ≡ true }
         ensures made { IsRunMade (runs.start run self.old.state) result self.old self.new
@@ -261,6 +278,6 @@ impl<D: Device + Send> Monitor<D> {
             out.old out.new }
     {
         let length = self.until.0.saturating_sub(self.lab.now().0);
-        self.run_for(rt, out, Micros(length), gate)
+        self.run_for(rt, out, Micros(length), gate, watcher)
     }
 }

@@ -55,10 +55,10 @@ def faults(machine: Dict[str, Any]) -> Iterator[str]:
     parts = Parts(machine)
     for where, part in named_by(plan):
         if parts.lacks(part):
-            yield f"{where} is of a {part[0]} that is not there"
+            yield f"{where} refers to a {part[0]} that does not exist"
     for name in "processors", "reservations":
         if len(state[name]) != len(plan["processors"]):
-            yield f"{len(state[name])} {name} are not one for each of {len(plan['processors'])} processors"
+            yield f"{len(state[name])} {name}, but {len(plan['processors'])} processors in the plan"
     if any(wire["from"][0] == "context" and wire["to"][0] == "source" for wire in plan["wires"]):
         yield "a wire leads from the interrupt controller to itself"
     kinds = [entry["what"][1][""][0] for entry in plan["names"] if entry["what"][0] == "part"]

@@ -85,16 +85,21 @@ def tell(text: str) -> None:
         sys.stderr.flush()
 
 
+def counted(count: int, one: str, more: str) -> str:
+    """Returns how many there are, in words: `1 crate`, or `2 crates`."""
+    return f"{count} {one if count == 1 else more}"
+
+
 def end_wrong(text: object, status: int = 2) -> NoReturn:
     """Ends the script with a line on the standard error."""
     tell(f"{name_of_script()}: {text}")
     raise SystemExit(status)
 
 
-def end_unless(is_well: bool, usage: str, fault: str = "these words are not taken") -> None:
+def end_unless(is_well: bool, usage: str, fault: str = "wrong arguments") -> None:
     """Ends the script where its words are not well: a line says why, and which words it takes."""
     if not is_well:
-        end_wrong(f"{fault}: {name_of_script()} {usage}".rstrip())
+        end_wrong(f"{fault}; usage: {name_of_script()} {usage}".rstrip())
 
 
 def number_of(word: str, usage: str, most: int = 999_999_999) -> int:
@@ -129,7 +134,7 @@ def program_or(fault: Type[Exception]) -> str:
     try:
         return path_of_program()
     except SystemExit as ended:
-        cause = "LAB names none" if os.environ.get("LAB") else f"./lab ended with {ended.code}"
+        cause = "LAB names no program" if os.environ.get("LAB") else f"./lab ended with {ended.code}"
         raise fault(f"there is no program to run: {cause}") from ended
 
 
@@ -185,7 +190,7 @@ def end_with(main: Callable[[], Optional[int]], failed: int = 1) -> NoReturn:
         drop_output()
         end_wrong(fault, failed)
     except KeyboardInterrupt:
-        end_wrong("it was interrupted", 130)
+        end_wrong("interrupted", 130)
     raise SystemExit(status)
 
 

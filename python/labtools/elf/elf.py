@@ -144,10 +144,10 @@ def faults_of_names(sections: List[Tuple[int, ...]], names: int) -> Iterator[str
     """Yields what is wrong with the names of sections, whose number is given, and with tables of symbols."""
     strings = [number for number, it in enumerate(sections) if it[1] == STRINGS]
     if sections and names not in strings:
-        yield "the names of its sections are nowhere"
+        yield "the table with the names of its sections is missing"
     for number, it in enumerate(sections):
         if it[1] == SYMBOLS and it[6] not in strings:
-            yield "the names of its symbols are nowhere"
+            yield "the table with the names of its symbols is missing"
         if it[1] == SYMBOLS and (it[9] != SYMBOL_SIZE or it[5] % SYMBOL_SIZE):
             yield f"section {number} has symbols of {it[9]} bytes, and not {SYMBOL_SIZE}"
 

@@ -108,15 +108,15 @@ def suite_of(path: pathlib.Path) -> ElementTree.Element:
         content = plain_files.content_of(path, RESULTS_LIMIT)
         # Entities may stand for more than any memory has, and no results have some.
         if b"<!DOCTYPE" in content:
-            raise Undone(f"{path} has no results as JUnit: it has a DOCTYPE")
+            raise Undone(f"{path} has no JUnit results: it has a DOCTYPE")
         root = ElementTree.fromstring(content)
     except OSError as fault:
         raise unread(path, fault) from fault
     except (ElementTree.ParseError, ValueError, LookupError) as fault:
-        raise Undone(f"{path} has no results as JUnit: {fault}") from fault
+        raise Undone(f"{path} has no JUnit results: {fault}") from fault
     suites = [root] if root.tag == "testsuite" else root.findall("testsuite")
     if len(suites) != 1:
-        raise Undone(f"{path} has no results as JUnit: {len(suites)} suites instead of one")
+        raise Undone(f"{path} has no JUnit results: {len(suites)} suites instead of one")
     return suites[0]
 
 

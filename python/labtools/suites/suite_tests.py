@@ -15,7 +15,7 @@ PASSED, FAILED, ERROR = "passed", "failed", "error"
 
 STATUSES = {
     1: "memory ran out",
-    2: "its words are wrong",
+    2: "its arguments are wrong",
     4: "a file could not be read",
     5: "its output could not be written",
     6: "a snapshot could not be kept or read",

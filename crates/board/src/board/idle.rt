@@ -4,7 +4,7 @@ ghost use Rattle.board.specs.Idle.{IsIdle, is_idle, passed};
 ghost use Rattle.board_space.specs.Lines.{is_wired};
 ghost use Rattle.board_space.specs.Lines.{sampled, timer_up, mip_of};
 ghost use Rattle.board.specs.Stretch.{stretch};
-ghost use Rattle.board.specs.View.{after, core_at};
+ghost use Rattle.board.specs.View.{after, core_at, quiet};
 
 use super::{Board, SlotAt};
 use crate::harts::{is_idle, pass_cycles};
@@ -12,6 +12,20 @@ use dev_core::Device;
 use lab_num::Micros;
 
 impl<D: Device> Board<D> {
+    /// Passes over the next slots, at most `n`, as far as they are known to be idle, and says how many. They are the
+    /// slots that a turn would take, and all that they do is to count cycles. At 0 the next slot may be idle or not.
+    pub fn pass(&mut self, at: SlotAt, n: u64) -> u64
+        requires time { at.from.0 + (at.first + n) / self.old.view.numbers.speed ≤ 10000000000 }
+        ensures most { result ≤ n }
+        ensures run { self.new ≡ after self.old (stretch self.old.view at.from.0 at.first result) }
+        ensures idle { 0 < result → stretch self.old.view at.from.0 at.first result
+            ≡ quiet (passed self.old.view result) }
+        ensures none { result ≡ 0 → self.new ≡ self.old }
+    {
+        let wired = self.bus.space.is_wired();
+        self.pass_idle(wired, at, 0, n)
+    }
+
     /// Passes over idle slots, of those from slot `i` of the call on: up to the first one in the
     /// microsecond in which the line of the timer interrupt changes, or to the end of the call. The
     /// answer is how many, and 0 where the next slot may not be idle.
@@ -24,6 +38,9 @@ impl<D: Device> Board<D> {
         ensures most { i + result ≤ n }
         ensures run { self.new ≡ after self.old
             (stretch self.old.view at.from.0 (at.first + i) result) }
+        ensures idle { 0 < result → stretch self.old.view at.from.0 (at.first + i) result
+            ≡ quiet (passed self.old.view result) }
+        ensures none { result ≡ 0 → self.new ≡ self.old }
     {
         let speed = u64::from(self.speed());
         let next = at.first + i;
@@ -38,7 +55,7 @@ impl<D: Device> Board<D> {
         if stop < next {
             return 0;
         }
-        self.pass(stop - next);
+        self.let_pass(stop - next);
         stop - next
     }
 
@@ -85,7 +102,7 @@ impl<D: Device> Board<D> {
     }
 
     /// Lets so many slots pass.
-    fn pass(&mut self, slots: u64)
+    fn let_pass(&mut self, slots: u64)
         ensures after { self.new ≡ record self.old { view = passed self.old.view slots } }
         ensures fits { All (λ core. core.mcycle < 2 ^ 64) self.old.view.cores }
         ensures next { self.old.view.next < length self.old.view.cores }

@@ -2,7 +2,7 @@ use Rattle.std.proofs.Common.{◌∙◌, refl, rules}
 use Rattle.std.proofs.lemmas.List.FromFn.{length-map-range_with_len}
 use Rattle.board.proofs.HoldLemmas.{holds_passed}
 use Rattle.board.proofs.IdleLemmas.{passed_back}
-use Rattle.board.proofs.board.Board.pass.Goals as goal
+use Rattle.board.proofs.board.Board.let_pass.Goals as goal
 
 pub invariant_of-self : goal.invariant_of-self
 invariant_of-self g c =

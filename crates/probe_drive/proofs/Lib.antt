@@ -1,0 +1,3 @@
+-- Lemmas of probe_drive.
+mod CourseLemmas
+mod SlotLemmas

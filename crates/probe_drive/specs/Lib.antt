@@ -1,0 +1,1 @@
+-- What contracts of probe_drive cite is in probe_jobs.
